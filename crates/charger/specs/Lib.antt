@@ -1,0 +1,8 @@
+-- What the contracts of the crate cite.
+pub mod First
+pub mod Lists
+pub mod Connector
+pub mod Vehicle
+pub mod Charger
+pub mod Queue
+pub mod Profiles

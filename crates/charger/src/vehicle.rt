@@ -1,0 +1,37 @@
+// What the engines read of a vehicle.
+use crate::connector::Resolved;
+use crate::connector::resolve_connector;
+use curve::units::Seconds;
+ghost use mathlib.Core.Path.{_≡_};
+ghost use Rattle.charger.specs.Vehicle.{connectorOf, compatible};
+
+// `profile` is its charge profile's place in the plan. Its connectors, in its order of preference, are the first `count` codes.
+pub struct Vehicle {
+    pub profile: usize,
+    pub codes: [u8; 5],
+    pub count: usize,
+    pub start: f64,
+    pub target: f64,
+    pub idle: Seconds,
+    pub arrival: u64,
+    pub wait: u64,
+    pub limit: usize,
+}
+
+// The connector that the pair uses: the first of the vehicle's that the charger has.
+pub fn connector_of(row: [bool; 5], vehicle: Vehicle) -> Resolved
+    ensures { λ r. ⌜ r ≡ connectorOf row vehicle ⌝ }
+{
+    let codes = vehicle.codes;
+    resolve_connector(row, codes, vehicle.count)
+}
+
+// The pair has a connector in common.
+pub fn fits(row: [bool; 5], vehicle: Vehicle) -> bool
+    ensures { λ r. ⌜ r ≡ compatible row vehicle ⌝ }
+{
+    match connector_of(row, vehicle) {
+        Resolved::Connector(_) => true,
+        Resolved::Nothing => false,
+    }
+}

@@ -1,0 +1,37 @@
+// The plan's vehicles (vehicle_list.rs).
+use crate::vehicle::Vehicle;
+use curve::units::Seconds;
+ghost use mathlib.Core.Path.{_≡_};
+ghost use Rattle.charger.specs.Vehicle.{vehicleAt, listed};
+
+// The first `len` of `all`.
+pub struct VehicleList {
+    pub all: [Vehicle; 64],
+    pub len: usize,
+}
+
+impl VehicleList {
+    // The vehicle at a place of the plan; past the last one that fits no charger.
+    pub fn get_vehicle(self, v: usize) -> Vehicle
+        ensures { λ r. ⌜ r ≡ vehicleAt (listed self) v ⌝ }
+    {
+        let n = self.len;
+        let all = self.all;
+        if v < n {
+            if v < 64 {
+                return all[v];
+            }
+        }
+        Vehicle {
+            profile: 0,
+            codes: [0; 5],
+            count: 0,
+            start: 0.0,
+            target: 0.0,
+            idle: Seconds(0.0),
+            arrival: 0,
+            wait: 0,
+            limit: 0,
+        }
+    }
+}

@@ -1,0 +1,238 @@
+// A vehicle's charge profile: power as a function of battery SOC (state of charge, 0 to 1).
+use crate::float::max;
+use crate::float::min;
+use crate::units::Kw;
+use crate::units::Kwh;
+use crate::units::Seconds;
+ghost use mathlib.Core.Path.{_≡_};
+ghost use mathlib.Core.List.{[]};
+ghost use Prim.Native.Nat.{_+_, _≤_, _<_};
+ghost use lib.ListN.{length, getD, drop};
+ghost use Rattle.curve.specs.F64.{greatest};
+ghost use Rattle.curve.specs.Curve as Curve;
+
+// A point of the curve.
+pub struct Point {
+    pub soc: f64,
+    pub power: Kw,
+}
+
+// What charging takes: seconds, energy, and the largest average power of a segment.
+pub struct ChargingOutput {
+    pub duration: Seconds,
+    pub energy: Kwh,
+    pub peak: Kw,
+}
+
+// The SOC reached, and what it took to get there.
+pub struct Charge {
+    pub soc: f64,
+    pub output: ChargingOutput,
+}
+
+// Where a SOC lies on a curve: how many points, from the first, are at or below it, and the power there.
+pub struct Place {
+    pub segment: usize,
+    pub power: Kw,
+}
+
+// A charge on its way along a curve, with the place of the SOC reached.
+pub struct Walk {
+    pub charge: Charge,
+    pub place: Place,
+}
+
+// The power at `soc` on the line through p and q.
+pub fn between(p: Point, q: Point, soc: f64) -> Kw
+    ensures { λ r. ⌜ r ≡ Curve.between p q soc ⌝ }
+{
+    Kw(p.power.0 + (soc - p.soc) * (q.power.0 - p.power.0) / (q.soc - p.soc))
+}
+
+// A curve is a slice of rows, each a point's SOC and power, by rising SOC.
+
+// The point in row i.
+pub fn point_at(curve: &[[f64; 2]], i: usize) -> Point
+    requires { ⌜ i < length (now curve) ⌝ }
+    ensures { λ r. ⌜ r ≡ Curve.point (getD (now (curve .entry)) i []) ⌝ }
+{
+    Point {
+        soc: curve[i][0],
+        power: Kw(curve[i][1]),
+    }
+}
+
+// How many points, from the first, are at or below `soc`, where the first i are.
+fn segment_from(curve: &[[f64; 2]], i: usize, soc: f64) -> usize
+    requires { ⌜ i ≤ length (now curve) ⌝ }
+    ensures bounded { λ r. ⌜ r ≤ length (now (curve .entry)) ⌝ }
+    ensures found { λ r. ⌜ r ≡ i + Curve.reached soc (Curve.points (drop i (now (curve .entry)))) ⌝ }
+{
+    let mut j = i;
+    while j < curve.len() {
+        if soc < curve[j][0] {
+            return j;
+        }
+        j += 1;
+    }
+    j
+}
+
+// How many points, from the first, are at or below `soc`.
+pub fn segment(curve: &[[f64; 2]], soc: f64) -> usize
+    ensures bounded { λ r. ⌜ r ≤ length (now (curve .entry)) ⌝ }
+    ensures found { λ r. ⌜ r ≡ Curve.reached soc (Curve.points (now (curve .entry))) ⌝ }
+{
+    segment_from(curve, 0, soc)
+}
+
+// The power at `soc` if i points are at or below it.
+fn power_after(curve: &[[f64; 2]], i: usize, soc: f64) -> Kw
+    requires { ⌜ i ≤ length (now curve) ⌝ }
+    ensures { λ r. ⌜ r ≡ Curve.powerAfter (Curve.points (now (curve .entry))) soc i ⌝ }
+{
+    let n = curve.len();
+    if n == 0 {
+        return Kw(0.0);
+    }
+    if i == 0 {
+        return Kw(curve[0][1]);
+    }
+    if i == n {
+        return Kw(curve[n - 1][1]);
+    }
+    between(point_at(curve, i - 1), point_at(curve, i), soc)
+}
+
+// The power at `soc`.
+pub fn power_at(curve: &[[f64; 2]], soc: f64) -> Kw
+    ensures { λ r. ⌜ r ≡ Curve.powerAt (Curve.points (now (curve .entry))) soc ⌝ }
+{
+    power_after(curve, segment(curve, soc), soc)
+}
+
+// The place of `soc`.
+fn locate(curve: &[[f64; 2]], soc: f64) -> Place
+    ensures { λ r. ⌜ r ≡ Curve.place (Curve.points (now (curve .entry))) soc ⌝ }
+{
+    let segment = segment(curve, soc);
+    Place {
+        segment,
+        power: power_after(curve, segment, soc),
+    }
+}
+
+// The place of `to` from that of `from`. Upward the search goes on where the last one ended.
+fn onward(curve: &[[f64; 2]], from: f64, place: Place, to: f64) -> Place
+    requires { ⌜ place ≡ Curve.place (Curve.points (now curve)) from ⌝ }
+    ensures { λ r. ⌜ r ≡ Curve.place (Curve.points (now (curve .entry))) to ⌝ }
+{
+    if from <= to {
+        let segment = segment_from(curve, place.segment, to);
+        return Place {
+            segment,
+            power: power_after(curve, segment, to),
+        };
+    }
+    locate(curve, to)
+}
+
+// The place of the larger of `soc` and `start`, from that of `soc`.
+fn from_start(curve: &[[f64; 2]], soc: f64, place: Place, start: f64) -> Place
+    requires { ⌜ place ≡ Curve.place (Curve.points (now curve)) soc ⌝ }
+    ensures { λ r. ⌜ r ≡ Curve.place (Curve.points (now (curve .entry))) (greatest soc start) ⌝ }
+{
+    if soc != soc {
+        return locate(curve, start);
+    }
+    if soc < start {
+        return locate(curve, start);
+    }
+    place
+}
+
+// Charging over the part of the segment from p to q between the SOC reached and the target.
+fn part(curve: &[[f64; 2]], battery: Kwh, target: f64, cap: Kw, p: Point, q: Point, w: Walk) -> Walk
+    requires { ⌜ w ≡ Curve.walk (Curve.points (now curve)) (w .charge) ⌝ }
+    ensures { λ r. ⌜ r ≡ Curve.walk (Curve.points (now (curve .entry))) (Curve.part (Curve.points (now (curve .entry))) battery target cap p q (w .charge)) ⌝ }
+{
+    let c = w.charge;
+    let s = max(c.soc, p.soc);
+    let e = min(target, q.soc);
+    let first = from_start(curve, c.soc, w.place, p.soc);
+    let place = onward(curve, s, first, e);
+    let energy = (e - s) * battery.0;
+    let mean = 0.5 * (min(first.power.0, cap.0) + min(place.power.0, cap.0));
+    Walk {
+        charge: Charge {
+            soc: e,
+            output: ChargingOutput {
+                duration: Seconds(c.output.duration.0 + 3600.0 * energy / mean),
+                energy: Kwh(c.output.energy.0 + energy),
+                peak: Kw(max(c.output.peak.0, mean)),
+            },
+        },
+        place,
+    }
+}
+
+// The same, if the SOC reached is below the target and the segment's end.
+fn through(
+    curve: &[[f64; 2]],
+    battery: Kwh,
+    target: f64,
+    cap: Kw,
+    p: Point,
+    q: Point,
+    w: Walk,
+) -> Walk
+    requires { ⌜ w ≡ Curve.walk (Curve.points (now curve)) (w .charge) ⌝ }
+    ensures { λ r. ⌜ r ≡ Curve.walk (Curve.points (now (curve .entry))) (Curve.through (Curve.points (now (curve .entry))) battery target cap p q (w .charge)) ⌝ }
+{
+    if target <= w.charge.soc {
+        return w;
+    }
+    if q.soc <= w.charge.soc {
+        return w;
+    }
+    part(curve, battery, target, cap, p, q, w)
+}
+
+// What charging from one SOC to another takes, with the power capped throughout.
+pub fn integrate_over(
+    curve: &[[f64; 2]],
+    battery: Kwh,
+    start: f64,
+    target: f64,
+    cap: Kw,
+) -> ChargingOutput
+    ensures { λ r. ⌜ r ≡ Curve.integrateOver (Curve.points (now (curve .entry))) battery start target cap ⌝ }
+{
+    let none = ChargingOutput {
+        duration: Seconds(0.0),
+        energy: Kwh(0.0),
+        peak: Kw(0.0),
+    };
+    if curve.len() == 0 {
+        return none;
+    }
+    let mut w = Walk {
+        charge: Charge {
+            soc: start,
+            output: none,
+        },
+        place: locate(curve, start),
+    };
+    let mut p = point_at(curve, 0);
+    let mut i = 1;
+    while i < curve.len() {
+        if target <= w.charge.soc {
+            return w.charge.output;
+        }
+        let q = point_at(curve, i);
+        w = through(curve, battery, target, cap, p, q, w);
+        p = q;
+        i += 1;
+    }
+    w.charge.output
+}
