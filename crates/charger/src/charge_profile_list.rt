@@ -1,8 +1,10 @@
 // The curves of the plan's profiles (charge_profile_list.rs), in one table: 32 rows a profile, of which the first lens[k] are the curve of profile k.
-use curve::charge_profile::power_at;
-use curve::units::Kw;
+use curve::charge_profile::Place;
+use curve::charge_profile::place_near;
 ghost use mathlib.Core.Path.{_≡_};
-ghost use Rattle.curve.specs.Curve.{points, powerAt};
+ghost use lib.Ieee.{le};
+ghost use Rattle.curve.specs.Curve.{points, place};
+ghost use Rattle.curve.specs.Rising.{Rises};
 ghost use Rattle.charger.specs.Profiles.{curveAt};
 
 // A byte as a place or a length.
@@ -30,9 +32,10 @@ pub fn profile_curve<'a>(curves: &'a [[f64; 2]], lens: &[u8], profile: usize) ->
     &curves[start..end]
 }
 
-// The power of a profile at `soc`.
-pub fn profile_power_at(curves: &[[f64; 2]], lens: &[u8], profile: u8, soc: f64) -> Kw
-    ensures { λ r. ⌜ r ≡ powerAt (curveAt (now (curves .entry)) (now (lens .entry)) profile) soc ⌝ }
+// Where `soc` lies on the curve of a profile, which rises: its segment, found at once if it is near the one given, and the power.
+pub fn profile_place(curves: &[[f64; 2]], lens: &[u8], profile: u8, near: usize, soc: f64) -> Place
+    requires { ⌜ Rises le (curveAt (now curves) (now lens) profile) ⌝ }
+    ensures { λ r. ⌜ r ≡ place (curveAt (now (curves .entry)) (now (lens .entry)) profile) soc ⌝ }
 {
-    power_at(profile_curve(curves, lens, wide(profile)), soc)
+    place_near(profile_curve(curves, lens, wide(profile)), near, soc)
 }

@@ -13,10 +13,12 @@ use lib.Ieee.Positive.{above, above-of-le}
 use Rattle.curve.specs.F64.{_⊕_, _⊖_, _⊗_, _⊘_, ratio, clear}
 use Rattle.curve.specs.Limits.{Soc, Power, Held}
 use Rattle.curve.specs.Curve.{origin, between, reached, powerAfter, powerAt, curveOf}
+use Rattle.curve.specs.Rising.{Above, Rises}
 use Rattle.curve.specs.declared.charge_profile.Point.{Point}
 use Rattle.curve.proofs.Compare.{le-lt, not-below-itself, not-lt, le-of-lt, le-of-test}
 use Rattle.curve.proofs.Exact.{less-itself, times-zero, over-zero, plus-zero, finite-difference, difference-above}
-use Rattle.curve.proofs.Sorted.{Above, Rises, Different, held-socs, rises-strictly}
+use Rattle.curve.proofs.Rising.{behind}
+use Rattle.curve.proofs.Sorted.{Different, held-socs, rises-strictly}
 use Rattle.curve.proofs.Held.{curve-held}
 
 -- ---- the point at a place
@@ -33,16 +35,11 @@ above-all s (p ∷ ps) zero a h = is-true (lt s (p .soc)) (a .0)
 above-all s (p ∷ ps) (suc i) a h =
     le-lt s (p .soc) (getD ps i origin .soc) (is-true (le s (p .soc)) (le-of-lt s (p .soc) (is-true (lt s (p .soc)) (a .0)))) (above-all (p .soc) ps i (a .1) (omega arith))
 
-behind : (p : Point) (ps : List Point) → Above lt (p .soc) ps → Rises lt ps
-unfolding Above Rises
-behind p [] a = tt
-behind p (q ∷ qs) a = a .1
-
 next : (ps : List Point) (i : ℕ) → Rises lt ps → suc i < length ps → lt (getD ps i origin .soc) (getD ps (suc i) origin .soc) ≡ true
 unfolding Rises
 next [] i r h = absurd (omega arith)
 next (p ∷ ps) zero r h = above-all (p .soc) ps 0 r (omega arith)
-next (p ∷ ps) (suc i) r h = next ps i (behind p ps r) (omega arith)
+next (p ∷ ps) (suc i) r h = next ps i (behind lt p ps r) (omega arith)
 
 -- ---- the search finds it
 reached-none : (s : Float) (ps : List Point) → Above lt s ps → reached s ps ≡ 0
@@ -57,7 +54,7 @@ reached-point (p ∷ ps) zero r h = rw (not-below-itself (p .soc), reached-none 
 reached-point (p ∷ ps) (suc i) r h =
     let s = getD ps i origin .soc in
     let o : lt s (p .soc) ≡ false = not-lt s (p .soc) (le-of-lt (p .soc) s (above-all (p .soc) ps i r (omega arith))) in
-    rw o (ap suc (reached-point ps i (behind p ps r) (omega arith)))
+    rw o (ap suc (reached-point ps i (behind lt p ps r) (omega arith)))
 
 -- ---- between two points, at the first
 at-most : (m : ℕ) (e : ℤ) → T (le (fin false m e) (ratio 1024 1)) → m * up e ≤ 1024 * down e

@@ -6,12 +6,12 @@ use native.Mathlib.Nat.{lt-of-not-le, not-le-of-lt, mul-pos, le-refl, le-of-eq, 
 use native.Mathlib.Omega.{arith}
 use lib.Dec.{T, ltb, eqb, ltb→lt, eqb→eq}
 use lib.IntN.{ℤ}
-use lib.Ieee.{Float, nan, inf, fin, up, down, below, level, lt, le, eq, ne}
+use lib.Ieee.{Float, nan, inf, fin, up, down, below, level, lt, le, eq, ne, isNan}
 use lib.Ieee.Fits.{down-pos, and-l}
 use lib.Ieee.Order.{le-of-values}
 use lib.Ieee.Bits.{is-true}
 use lib.Ieee.Positive.{through, first-pos}
-use borrow.Author.Tests.{ltb-true, ltb-false, lt-ltb, le-ltb}
+use borrow.Author.Tests.{ltb-true, ltb-false, lt-ltb, le-ltb, eq-eqb}
 use Rattle.curve.specs.F64.{clear}
 
 -- fractions with x / p ≤ y / q < z / r, and with z / r < y / q ≤ x / p
@@ -112,6 +112,73 @@ not-lt x y h = go (lt x y) refl
     go true t = absurd (true≢false (sym (le-lt y x y (is-true (le y x) h) t) ∙ not-below-itself y))
     go false t = t
 
+-- a ≤ b: below, or whatever holds of equal ones
+level-or : (a b : ℕ) (v : Bool) → a ≤ b → (a ≡ b → T v) → T (ltb a b || v)
+level-or a b v h f = go (ltb a b) refl
+  where
+    go : (u : Bool) → ltb a b ≡ u → T (u || v)
+    go true t = tt
+    go false t = f (omega (arith, ltb-false a b t))
+
+level-same : (s : Bool) (a b : ℕ) → a ≡ b → T (level s a s b)
+level-same true a b e = rw (eq-eqb a b e) tt
+level-same false a b e = rw (eq-eqb a b e) tt
+
+level-zero : (s t : Bool) (a b : ℕ) → a ≡ 0 → b ≡ 0 → T (level s a t b)
+level-zero s t a b e f = rw (e, f) (go (Bool·beq s t))
+  where
+    go : (u : Bool) → T (u || true)
+    go true = tt
+    go false = tt
+
+-- ± a not below ± b, turned round
+turned : (s t : Bool) (a b : ℕ) → below s a t b ≡ false → T (below t b s a || level t b s a)
+turned false false a b h = level-or b a _ (ltb-false a b h) (level-same false b a)
+turned false true a b h = level-or 0 (b + a) _ (omega arith) (λ e. level-zero true false b a (omega arith) (omega arith))
+turned true false a b h = level-zero false true b a (omega (arith, ltb-false 0 (a + b) h)) (omega (arith, ltb-false 0 (a + b) h))
+turned true true a b h = level-or a b _ (ltb-false b a h) (λ e. level-same true b a (sym e))
+
+-- of two floats that are not NaN, one that is not below the other is at least it
+pub le-of-not-lt : (x y : Float) → T (not (isNan x)) → T (not (isNan y)) → lt x y ≡ false → T (le y x)
+unfolding lt le eq isNan
+le-of-not-lt nan y p q t = absurd p
+le-of-not-lt (inf s) nan p q t = absurd q
+le-of-not-lt (inf true) (inf true) p q t = tt
+le-of-not-lt (inf true) (inf false) p q t = absurd (true≢false t)
+le-of-not-lt (inf false) (inf true) p q t = tt
+le-of-not-lt (inf false) (inf false) p q t = tt
+le-of-not-lt (inf true) (fin u n d) p q t = absurd (true≢false t)
+le-of-not-lt (inf false) (fin u n d) p q t = tt
+le-of-not-lt (fin s m e) nan p q t = absurd q
+le-of-not-lt (fin s m e) (inf true) p q t = tt
+le-of-not-lt (fin s m e) (inf false) p q t = absurd (true≢false t)
+le-of-not-lt (fin s m e) (fin u n d) p q t = turned s u (m * up e * down d) (n * up d * down e) t
+
+-- neither side of a test that passes is NaN
+lt-left : (x y : Float) → lt x y ≡ true → T (not (isNan x))
+unfolding lt isNan
+lt-left nan y t = absurd (true≢false (sym t))
+lt-left (inf s) y t = tt
+lt-left (fin s m e) y t = tt
+
+le-right : (x y : Float) → le x y ≡ true → T (not (isNan y))
+unfolding lt le eq isNan
+le-right nan nan t = absurd (true≢false (sym t))
+le-right (inf s) nan t = absurd (true≢false (sym t))
+le-right (fin s m e) nan t = absurd (true≢false (sym t))
+le-right x (inf s) t = tt
+le-right x (fin s m e) t = tt
+
+-- of any floats, below and then at most is below
+pub lt-le : (x y z : Float) → lt x y ≡ true → le y z ≡ true → lt x z ≡ true
+lt-le x y z h k = go (lt x z) refl
+  where
+    go : (b : Bool) → lt x z ≡ b → lt x z ≡ true
+    go true t = t
+    go false t =
+        let back = le-lt z x y (is-true (le z x) (le-of-not-lt x z (lt-left x y h) (le-right y z k) t)) h in
+        absurd (true≢false (sym (le-lt y z y k back) ∙ not-below-itself y))
+
 pub le-of-lt : (x y : Float) → lt x y ≡ true → T (le x y)
 unfolding le
 le-of-lt x y t = rw t tt
@@ -186,6 +253,12 @@ le-inf (fin s m e) p = tt
 pub fin-le : (m : ℕ) (e : ℤ) (n : ℕ) (d : ℤ) → m * up e * down d ≤ n * up d * down e → T (le (fin false m e) (fin false n d))
 fin-le m e n d h = le-of-values (fin false m e) (fin false n d) (m * up e) (down e) (n * up d) (down d) (down-pos e) (down-pos d) (refl, refl) (refl, refl) h
 
+pub number : (x : Float) → T (clear x) → T (not (isNan x))
+unfolding isNan
+number nan p = absurd p
+number (inf s) p = tt
+number (fin s m e) p = tt
+
 pub le-self : (x : Float) → T (clear x) → T (le x x)
 le-self nan p = absurd p
 le-self (inf true) p = absurd p
@@ -209,15 +282,3 @@ le-trans-clear (inf false) (fin false l c) (fin false n d) p q r h k = absurd h
 le-trans-clear (fin true m e) (fin false l c) (fin false n d) p q r h k = absurd p
 le-trans-clear (fin false m e) (fin false l c) (fin false n d) p q r h k =
     fin-le m e n d (through (m * up e) (l * up c) (n * up d) (down e) (down c) (down d) (down-pos c) (cross m e l c h) (cross l c n d k))
-
-pub le-of-not-lt : (x y : Float) → T (clear x) → T (clear y) → lt x y ≡ false → T (le y x)
-unfolding lt
-le-of-not-lt nan y p q t = absurd p
-le-of-not-lt (inf true) y p q t = absurd p
-le-of-not-lt (inf false) y p q t = le-inf y q
-le-of-not-lt (fin true m e) y p q t = absurd p
-le-of-not-lt (fin false m e) nan p q t = absurd q
-le-of-not-lt (fin false m e) (inf true) p q t = absurd q
-le-of-not-lt (fin false m e) (inf false) p q t = absurd (true≢false t)
-le-of-not-lt (fin false m e) (fin true n d) p q t = absurd q
-le-of-not-lt (fin false m e) (fin false n d) p q t = fin-le n d m e (ltb-false (m * up e * down d) (n * up d * down e) t)

@@ -8,5 +8,9 @@ pub mod Exact
 pub mod Laws
 pub mod Ceiling
 pub mod Sorted
+pub mod Rising
 pub mod Held
 pub mod AtPoint
+pub mod ByHand
+pub mod Reached
+pub mod Rows

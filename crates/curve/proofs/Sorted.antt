@@ -10,9 +10,10 @@ use lib.Ieee.{Float, lt, le, eq, ne, fits}
 use Rattle.curve.specs.F64.{ratio, clear}
 use Rattle.curve.specs.Limits.{Soc, Held}
 use Rattle.curve.specs.Curve.{origin, insert, sortInto, withStart, withEnd, curveOf}
+use Rattle.curve.specs.Rising.{Above, Rises}
 use Rattle.curve.specs.declared.charge_profile.Point.{Point}
 use Rattle.curve.proofs.Limits.{tested}
-use Rattle.curve.proofs.Compare.{equal, ne-back, below-of-ne, le-of-lt, le-of-not-lt, le-trans-clear}
+use Rattle.curve.proofs.Compare.{equal, ne-back, below-of-ne, le-of-lt, le-of-not-lt, number, le-trans-clear}
 
 -- ---- the same points, each once
 insert-permutes : (p : Point) (ps : List Point) → Permutation (p ∷ ps) (insert p ps)
@@ -83,17 +84,7 @@ different-permuted (swapped {a = p} {b = q} {a′ = p′} {b′ = q′} {l = l} 
 )
 different-permuted (then d e) h = different-permuted e (different-permuted d h)
 
--- ---- rising by SOC: each SOC stands so to the next
-module _ (r : Float → Float → Bool) where
-  unfoldable pub Above : Float → List Point → Type 0
-  Above s [] = Unit {0}
-  Above s (p ∷ ps) = T (r s (p .soc)) × Above (p .soc) ps
-
-  unfoldable pub Rises : List Point → Type 0
-  unfolding Above
-  Rises [] = Unit {0}
-  Rises (p ∷ ps) = Above (p .soc) ps
-
+-- ---- rising by SOC
 lower-start : (s : Float) (q : Point) (ps : List Point) → T (clear s) → T (clear (q .soc)) → Socs ps → T (le s (q .soc)) → Above le (q .soc) ps → Above le s ps
 unfolding Above Each
 lower-start s q [] c d k h a = tt
@@ -111,7 +102,7 @@ insert-above s p (q ∷ qs) c k h a = go (lt (q .soc) (p .soc)) refl (insert-abo
         → Above le s (cond b q p ∷ insert (cond b p q) qs)
     go true t f g = (a .0, f (le-of-lt (q .soc) (p .soc) t) (a .1))
     go false t f g =
-        let l = le-of-not-lt (q .soc) (p .soc) (k .0 .clear) (c .clear) t in
+        let l = le-of-not-lt (q .soc) (p .soc) (number (q .soc) (k .0 .clear)) (number (p .soc) (c .clear)) t in
         (h, g l (lower-start (p .soc) q qs (c .clear) (k .0 .clear) (k .1) l (a .1)))
 
 insert-rises : (p : Point) (ps : List Point) → Soc (p .soc) → Socs ps → Rises le ps → Rises le (insert p ps)
@@ -122,7 +113,7 @@ insert-rises p (q ∷ qs) c k h = go (lt (q .soc) (p .soc)) refl
     go : (b : Bool) → lt (q .soc) (p .soc) ≡ b → Above le (cond b q p .soc) (insert (cond b p q) qs)
     go true t = insert-above (q .soc) p qs c (k .1) (le-of-lt (q .soc) (p .soc) t) h
     go false t =
-        let l = le-of-not-lt (q .soc) (p .soc) (k .0 .clear) (c .clear) t in
+        let l = le-of-not-lt (q .soc) (p .soc) (number (q .soc) (k .0 .clear)) (number (p .soc) (c .clear)) t in
         insert-above (p .soc) q qs (k .0) (k .1) l (lower-start (p .soc) q qs (c .clear) (k .0 .clear) (k .1) l h)
 
 sort-rises : (done ps : List Point) → Socs done → Socs ps → Rises le done → Rises le (sortInto done ps)

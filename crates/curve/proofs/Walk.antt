@@ -51,22 +51,33 @@ reached-bounded (r ∷ l) s = go (lt s (getD r 0 nan)) (reached-bounded l s)
     go true h = zero-le
     go false h = omega arith
 
--- the search for t goes on where that for s, which is not above t, ended
+-- the search for s goes on from any place that it gets to
+pub reached-from : (s : Float) (l : List (List Float)) (i : ℕ) → i ≤ reached s (points l) → i + reached s (points (drop i l)) ≡ reached s (points l)
+unfolding reached
+reached-from s l zero h = zero-add _
+reached-from s [] (suc i) h = absurd (omega arith)
+reached-from s (r ∷ l) (suc i) h = go (lt s (getD r 0 nan)) h (reached-from s l i)
+  where
+    go : (b : Bool) → suc i ≤ cond b 0 (suc (reached s (points l))) → (i ≤ reached s (points l) → i + reached s (points (drop i l)) ≡ reached s (points l))
+        → suc i + reached s (points (drop i l)) ≡ cond b 0 (suc (reached s (points l)))
+    go true h f = absurd (omega arith)
+    go false h f = omega (arith, f (omega arith))
+
+-- that for t gets to where that for s, which is not above t, ended
 module _ (s t : Float) (h : le s t ≡ true) where
-  goes-on : (l : List (List Float)) → reached s (points l) + reached t (points (drop (reached s (points l)) l)) ≡ reached t (points l)
+  no-fewer : (l : List (List Float)) → reached s (points l) ≤ reached t (points l)
   unfolding reached
-  goes-on [] = refl
-  goes-on (r ∷ l) = go (lt s (getD r 0 nan)) (lt t (getD r 0 nan)) refl refl (goes-on l)
+  no-fewer [] = zero-le
+  no-fewer (r ∷ l) = go (lt s (getD r 0 nan)) (lt t (getD r 0 nan)) refl refl (no-fewer l)
     where
-      go : (a b : Bool) → lt s (getD r 0 nan) ≡ a → lt t (getD r 0 nan) ≡ b
-          → reached s (points l) + reached t (points (drop (reached s (points l)) l)) ≡ reached t (points l)
-          → cond a 0 (suc (reached s (points l))) + reached t (points (drop (cond a 0 (suc (reached s (points l)))) (r ∷ l))) ≡ cond b 0 (suc (reached t (points l)))
-      go true b p q e = rw q (zero-add _)
+      go : (a b : Bool) → lt s (getD r 0 nan) ≡ a → lt t (getD r 0 nan) ≡ b → reached s (points l) ≤ reached t (points l)
+          → cond a 0 (suc (reached s (points l))) ≤ cond b 0 (suc (reached t (points l)))
+      go true b p q e = zero-le
       go false true p q e = absurd (true≢false (sym (le-lt s t (getD r 0 nan) h q) ∙ p))
       go false false p q e = omega arith
 
   pub reached-on : (l : List (List Float)) (i : ℕ) → i ≡ reached s (points l) → i + reached t (points (drop i l)) ≡ reached t (points l)
-  reached-on l i e = rw e (goes-on l)
+  reached-on l i e = reached-from t l i (rw e (no-fewer l))
 
 point-in : (l : List (List Float)) (i : ℕ) (d : Point) → i < length l → getD (points l) i d ≡ point (getD l i [])
 point-in [] i d h = absurd (omega arith)

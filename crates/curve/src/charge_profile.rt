@@ -1,6 +1,7 @@
 // A vehicle's charge profile: power as a function of battery SOC (state of charge, 0 to 1).
 use crate::float::max;
 use crate::float::min;
+use crate::points::segment_in;
 use crate::units::Kw;
 use crate::units::Kwh;
 use crate::units::Seconds;
@@ -8,8 +9,10 @@ ghost use mathlib.Core.Path.{_≡_};
 ghost use mathlib.Core.List.{[]};
 ghost use Prim.Native.Nat.{_+_, _≤_, _<_};
 ghost use lib.ListN.{length, getD, drop};
+ghost use lib.Ieee.{le};
 ghost use Rattle.curve.specs.F64.{greatest};
 ghost use Rattle.curve.specs.Curve as Curve;
+ghost use Rattle.curve.specs.Rising.{Rises};
 
 // A point of the curve.
 pub struct Point {
@@ -86,6 +89,42 @@ pub fn segment(curve: &[[f64; 2]], soc: f64) -> usize
     segment_from(curve, 0, soc)
 }
 
+// The same where the points rise: by halves until at most eight points are left, and then one by one.
+pub fn segment_rising(curve: &[[f64; 2]], soc: f64) -> usize
+    requires { ⌜ Rises le (Curve.points (now curve)) ⌝ }
+    ensures bounded { λ r. ⌜ r ≤ length (now (curve .entry)) ⌝ }
+    ensures found { λ r. ⌜ r ≡ Curve.reached soc (Curve.points (now (curve .entry))) ⌝ }
+{
+    let mut passed = 0;
+    let mut left = curve.len();
+    while 8 < left {
+        let half = left / 2;
+        if !(soc < curve[passed + half][0]) {
+            passed += half;
+        }
+        left -= half;
+    }
+    segment_from(curve, passed, soc)
+}
+
+// The same, at once where `near` of the points, and at most a few more, are at or below `soc`.
+pub fn segment_near(curve: &[[f64; 2]], near: usize, soc: f64) -> usize
+    requires { ⌜ Rises le (Curve.points (now curve)) ⌝ }
+    ensures bounded { λ r. ⌜ r ≤ length (now (curve .entry)) ⌝ }
+    ensures found { λ r. ⌜ r ≡ Curve.reached soc (Curve.points (now (curve .entry))) ⌝ }
+{
+    if near == 0 {
+        return segment_rising(curve, soc);
+    }
+    if curve.len() < near {
+        return segment_rising(curve, soc);
+    }
+    if soc < curve[near - 1][0] {
+        return segment_rising(curve, soc);
+    }
+    segment_from(curve, near, soc)
+}
+
 // The power at `soc` if i points are at or below it.
 fn power_after(curve: &[[f64; 2]], i: usize, soc: f64) -> Kw
     requires { ⌜ i ≤ length (now curve) ⌝ }
@@ -108,7 +147,19 @@ fn power_after(curve: &[[f64; 2]], i: usize, soc: f64) -> Kw
 pub fn power_at(curve: &[[f64; 2]], soc: f64) -> Kw
     ensures { λ r. ⌜ r ≡ Curve.powerAt (Curve.points (now (curve .entry))) soc ⌝ }
 {
-    power_after(curve, segment(curve, soc), soc)
+    power_after(curve, segment_in(curve, soc), soc)
+}
+
+// The place of `soc` where the points rise and it is near the segment `near`.
+pub fn place_near(curve: &[[f64; 2]], near: usize, soc: f64) -> Place
+    requires { ⌜ Rises le (Curve.points (now curve)) ⌝ }
+    ensures { λ r. ⌜ r ≡ Curve.place (Curve.points (now (curve .entry))) soc ⌝ }
+{
+    let segment = segment_near(curve, near, soc);
+    Place {
+        segment,
+        power: power_after(curve, segment, soc),
+    }
 }
 
 // The place of `soc`.

@@ -1,0 +1,41 @@
+-- `engine::site::charger_of` meets its contract. Inside the list the default says nothing, and past its end it is what is returned. Assumes nothing.
+use mathlib.Core.Path.{_≡_}
+use borrow.Author.Needs.{needs}
+use native.Mathlib.Omega.{arith}
+use lib.Ieee.{ofBits}
+use lib.ListN.{length, length-take}
+use Rattle.curve.specs.F64.{ratio}
+use Rattle.charger.proofs.Part.{length-mapped}
+use Rattle.engine.specs.Plan.{chargerAt}
+use Rattle.engine.proofs.At.{at-inside, at-past}
+use Rattle.engine.proofs.site.charger_of.Statement.{statement}
+use Rattle.engine.proofs.site.charger_of.Tie as tie
+
+mul-result : tie.Need-mul-result
+mul-result c = search needs
+
+array-copy-out-result : tie.Need-array-copy-out-result
+array-copy-out-result c = search needs
+
+returns : tie.Need-returns
+unfolding chargerAt
+returns c =
+    let a = c .before .before .before .before .before .args in
+    let long : length (a .site .chargers) ≡ 32 = search (needs, length-mapped) in
+    at-inside (a .site .chargers) (a .site .count) (a .c) _ _ (omega arith) (omega arith)
+
+returns-2 : tie.Need-returns-2
+unfolding chargerAt ofBits ratio
+returns-2 c =
+    let a = c .before .before .before .before .args in
+    let long : length (a .site .chargers) ≡ 32 = search (needs, length-mapped) in
+    at-past (a .site .chargers) (a .site .count) (a .c) _ (simp length-take (omega arith))
+
+returns-3 : tie.Need-returns-3
+unfolding chargerAt ofBits ratio
+returns-3 c =
+    let a = c .before .before .before .args in
+    at-past (a .site .chargers) (a .site .count) (a .c) _ (simp length-take (omega arith))
+
+pub charger-of-spec : {M : Type 1} → statement M
+charger-of-spec = tie.close (tie.spec mul-result array-copy-out-result returns returns-2 returns-3)

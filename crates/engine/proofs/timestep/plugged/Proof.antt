@@ -1,0 +1,20 @@
+-- `engine::timestep::plugged` meets its contract.
+use lib.Ieee.{ofBits}
+use Rattle.curve.specs.F64.{ratio}
+use Rattle.engine.specs.Timestep.{plugged}
+use borrow.Author.Needs.{needs}
+use Rattle.engine.proofs.timestep.plugged.Statement.{statement}
+use Rattle.engine.proofs.timestep.plugged.Tie as tie
+
+narrow-requires : tie.Need-narrow-requires
+narrow-requires c κs = search needs
+
+narrow-requires-2 : tie.Need-narrow-requires-2
+narrow-requires-2 c κs = search needs
+
+returns : tie.Need-returns
+unfolding plugged ratio ofBits
+returns c = λ t time v at e b p. rw (c .narrow2 .ensures, c .before .narrow .ensures, b, p, e)
+
+pub plugged-spec : {M : Type 1} → statement M
+plugged-spec = tie.close (tie.spec narrow-requires narrow-requires-2 returns)

@@ -1,0 +1,141 @@
+-- One round at one charger.
+use mathlib.Core.Bool.{Bool, true, false, cond}
+use lib.Ieee.{Float, lt, le}
+use Rattle.curve.specs.F64.{_⊕_, _⊖_, _⊗_, _⊘_, ratio, least, greatest}
+use Rattle.curve.specs.declared.units.Kw.{Kw}
+use Rattle.engine.specs.declared.charger_state.Status.{Status}
+use Rattle.engine.specs.declared.charger_state.Status.the-variants.{Free, Charging, Idle, Finished}
+use Rattle.engine.specs.declared.charger_state.ChargerState.{ChargerState}
+
+abbrev pub isFree : Status → Bool
+isFree Free = true
+isFree Charging = false
+isFree Idle = false
+isFree Finished = false
+
+abbrev pub isFinished : Status → Bool
+isFinished Free = false
+isFinished Charging = false
+isFinished Idle = false
+isFinished Finished = true
+
+-- no car
+unfoldable pub empty : ChargerState
+unfolding ratio
+empty =
+    let zero = ratio 0 1 in
+    record {
+      status = Free;
+      profile = 0;
+      session = 0;
+      soc = zero;
+      target = zero;
+      battery = record { 0 = zero };
+      rated = record { 0 = zero };
+      requested = record { 0 = zero };
+      cap = record { 0 = zero };
+      idle = record { 0 = zero };
+      energy = record { 0 = zero };
+      peak = record { 0 = zero };
+    }
+
+-- an hour's part that a round takes, as one rounded constant
+abbrev pub hours : Float
+hours = ratio 1 1 ⊘ ratio 3600 1
+
+-- what the car draws, if the site's limit leaves it alone
+abbrev pub draw : ChargerState → Float
+draw s = least (s .requested .0) (s .rated .0)
+
+abbrev pub withRequest : Kw → ChargerState → ChargerState
+withRequest r s =
+    record {
+      status = s .status;
+      profile = s .profile;
+      session = s .session;
+      soc = s .soc;
+      target = s .target;
+      battery = s .battery;
+      rated = s .rated;
+      requested = r;
+      cap = s .cap;
+      idle = s .idle;
+      energy = s .energy;
+      peak = s .peak;
+    }
+
+-- the power cap, scaled by `factor` if that is below 1
+unfoldable pub capped : Float → ChargerState → ChargerState
+unfolding ratio
+capped factor s =
+    record {
+      status = s .status;
+      profile = s .profile;
+      session = s .session;
+      soc = s .soc;
+      target = s .target;
+      battery = s .battery;
+      rated = s .rated;
+      requested = s .requested;
+      cap = cond (lt factor (ratio 1 1)) (record { 0 = draw s ⊗ factor }) (s .rated);
+      idle = s .idle;
+      energy = s .energy;
+      peak = s .peak;
+    }
+
+abbrev pub chargingUntil : Float → Float → Status
+chargingUntil target soc = cond (le target soc) Idle Charging
+
+abbrev pub idleUntil : Float → Status
+idleUntil left = cond (le left (ratio 0 1)) Finished Idle
+
+-- a round of charging: idle once the target is reached
+unfoldable pub charged : ChargerState → ChargerState
+unfolding ratio
+charged s =
+    let power = least (s .requested .0) (s .cap .0) in
+    let energy = power ⊗ hours in
+    let soc = s .soc ⊕ energy ⊘ s .battery .0 in
+    record {
+      status = chargingUntil (s .target) soc;
+      profile = s .profile;
+      session = s .session;
+      soc = soc;
+      target = s .target;
+      battery = s .battery;
+      rated = s .rated;
+      requested = s .requested;
+      cap = s .cap;
+      idle = s .idle;
+      energy = record { 0 = s .energy .0 ⊕ energy };
+      peak = record { 0 = greatest (s .peak .0) power };
+    }
+
+-- a round of standing idle: finished once no idle time is left
+unfoldable pub idled : ChargerState → ChargerState
+unfolding ratio
+idled s =
+    let left = s .idle .0 ⊖ ratio 1 1 in
+    record {
+      status = idleUntil left;
+      profile = s .profile;
+      session = s .session;
+      soc = s .soc;
+      target = s .target;
+      battery = s .battery;
+      rated = s .rated;
+      requested = s .requested;
+      cap = s .cap;
+      idle = record { 0 = left };
+      energy = s .energy;
+      peak = s .peak;
+    }
+
+abbrev pub progressBy : Status → ChargerState → ChargerState
+progressBy Free s = s
+progressBy Charging s = charged s
+progressBy Idle s = idled s
+progressBy Finished s = s
+
+abbrev pub progress : ChargerState → ChargerState
+progress s = progressBy (s .status) s

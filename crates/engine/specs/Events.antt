@@ -1,0 +1,31 @@
+-- Events: the order in which they pop, and those of a plan. Pending events are a list in that order.
+use mathlib.Core.Bool.{Bool, cond}
+use mathlib.Core.List.{List, [], _∷_}
+use Prim.Native.Nat.{ℕ, suc, _+_}
+use lib.Dec.{ltb}
+use Rattle.charger.specs.declared.vehicle.Vehicle.{Vehicle}
+use Rattle.engine.specs.declared.events.Event.{Event}
+use Rattle.engine.specs.declared.events.EventType.the-variants.{Arrival, Renege, Unplug}
+
+abbrev pub arrival : ℕ → ℕ → Event
+arrival t v = record { time = t; kind = Arrival; vehicle = v; charger = 0 }
+
+abbrev pub renege : ℕ → ℕ → Event
+renege t v = record { time = t; kind = Renege; vehicle = v; charger = 0 }
+
+abbrev pub unplug : ℕ → ℕ → ℕ → Event
+unplug t v c = record { time = t; kind = Unplug; vehicle = v; charger = c }
+
+-- the order of events: `e`, pushed later than `x`, still pops before it
+unfoldable pub before : Event → Event → Bool
+before e x = ltb (e .time) (x .time)
+
+-- a pushed event goes in front of the first that it pops before
+abbrev pub push : Event → List Event → List Event
+push e [] = e ∷ []
+push e (x ∷ xs) = cond (before e x) (e ∷ (x ∷ xs)) (x ∷ push e xs)
+
+-- the arrival and the renege of each vehicle, pushed in plan order from the place v
+abbrev pub generate : ℕ → List Vehicle → List Event → List Event
+generate v [] l = l
+generate v (x ∷ xs) l = generate (suc v) xs (push (renege (x .arrival + x .wait) v) (push (arrival (x .arrival) v) l))

@@ -1,0 +1,152 @@
+-- The run by steps, as document 01 has it: a round is the events due, the power, the progress, the freed chargers.
+use mathlib.Core.Bool.{Bool, true, cond, _&&_}
+use mathlib.Core.List.{List, [], _∷_}
+use Prim.Native.Nat.{ℕ, zero, suc, _+_, _-_}
+use lib.Dec.{leb}
+use lib.ListN.{getD, set}
+use lib.Ieee.{binary64, ofInt}
+use lib.IntN.{pos}
+use Rattle.curve.specs.F64.{_⊖_, ratio}
+use Rattle.engine.specs.declared.events.Event.{Event}
+use Rattle.engine.specs.declared.session.Session.{Session}
+use Rattle.engine.specs.declared.session.Outcome.the-variants.{Open, Charged}
+use Rattle.engine.specs.Plan.{Plan, vehicle, rated}
+use Rattle.engine.specs.SiteState.{Engine, SiteState, isEmpty, uncharged, initial, popped, release}
+use Rattle.engine.specs.declared.charger_state.Status.the-variants.{Charging}
+use Rattle.engine.specs.declared.charger_state.ChargerState.{ChargerState}
+use Rattle.engine.specs.ChargerState.{isFree, isFinished, empty}
+use Rattle.engine.specs.Power.{charge}
+
+pub record State : Type 0 where
+  pub site : SiteState ChargerState
+  pub time : ℕ
+
+-- `finalize`
+unfoldable pub finalized : ℕ → ChargerState → Session → Session
+finalized now s x =
+    record {
+      vehicle = x .vehicle;
+      outcome = Charged;
+      charger = x .charger;
+      plugin = x .plugin;
+      unplug = now;
+      wait = x .wait;
+      duration = record { 0 = ofInt binary64 (pos (now - x .plugin)) ⊖ x .idle .0 };
+      idle = x .idle;
+      peak = s .peak;
+      energy = s .energy;
+    }
+
+-- the sessions with that of the charger closed, if it is finished
+abbrev pub closedAt : ℕ → ChargerState → List Session → List Session
+closedAt now s xs = cond (isFinished (s .status)) (set xs (s .session) (finalized now s (getD xs (s .session) (uncharged 0 Open 0)))) xs
+
+-- and those of all finished chargers
+abbrev pub closed : ℕ → List ChargerState → List Session → List Session
+closed now [] xs = xs
+closed now (s ∷ ss) xs = closed now ss (closedAt now s xs)
+
+-- the chargers that are finished, from the place c on
+abbrev pub finished : ℕ → List ChargerState → List ℕ
+finished c [] = []
+finished c (s ∷ ss) = cond (isFinished (s .status)) (c ∷ finished (suc c) ss) (finished (suc c) ss)
+
+abbrev pub allFree : List ChargerState → Bool
+allFree [] = true
+allFree (s ∷ ss) = isFree (s .status) && allFree ss
+
+module _ (t : Plan) where
+  -- the session of a car that was plugged in
+  unfoldable pub started : ℕ → ℕ → ℕ → Session
+  unfolding ratio
+  started now v c =
+      let x = vehicle t v in
+      record {
+        vehicle = v;
+        outcome = Open;
+        charger = c;
+        plugin = now;
+        unplug = 0;
+        wait = now - x .arrival;
+        duration = record { 0 = ratio 0 1 };
+        idle = x .idle;
+        peak = record { 0 = ratio 0 1 };
+        energy = record { 0 = ratio 0 1 };
+      }
+
+  -- and the charger's state then
+  unfoldable pub plugged : ℕ → ℕ → ℕ → ℕ → ChargerState
+  unfolding ratio
+  plugged now v c index =
+      let x = vehicle t v in
+      record {
+        status = Charging;
+        profile = x .profile;
+        session = index;
+        soc = x .start;
+        target = x .target;
+        battery = t .battery (x .profile);
+        rated = rated t v c;
+        requested = record { 0 = ratio 0 1 };
+        cap = rated t v c;
+        idle = x .idle;
+        energy = record { 0 = ratio 0 1 };
+        peak = record { 0 = ratio 0 1 };
+      }
+
+  abbrev pub steps : Engine ChargerState
+  steps =
+      record {
+        empty = empty;
+        isFree = λ s. isFree (s .status);
+        session = started;
+        occupant = plugged;
+        pend = λ now v c es. es;
+      }
+
+  -- every event due at `now` is popped
+  abbrev pub due : ℕ → List Event → SiteState ChargerState → SiteState ChargerState
+  due now [] f = f
+  due now (e ∷ es) f = cond (leb (e .time) now) (due now es (popped t steps e es f)) f
+
+  abbrev pub withPlaces : List ChargerState → SiteState ChargerState → SiteState ChargerState
+  withPlaces ss f = record { pending = f .pending; queue = f .queue; places = ss; sessions = f .sessions }
+
+  -- the power, then the progress
+  abbrev pub charged : SiteState ChargerState → SiteState ChargerState
+  charged f = withPlaces (charge (t .limit) (t .curve) (f .places)) f
+
+  abbrev pub withClosed : ℕ → SiteState ChargerState → SiteState ChargerState
+  withClosed now f =
+      record { pending = f .pending; queue = f .queue; places = f .places; sessions = closed now (f .places) (f .sessions) }
+
+  abbrev pub releaseAll : ℕ → List ℕ → SiteState ChargerState → SiteState ChargerState
+  releaseAll now [] f = f
+  releaseAll now (c ∷ cs) f = releaseAll now cs (release t steps now c f)
+
+  -- the freed chargers, each with the first fitting vehicle of the queue
+  abbrev pub releaseFinished : ℕ → SiteState ChargerState → SiteState ChargerState
+  releaseFinished now f = releaseAll now (finished 0 (f .places)) f
+
+  unfoldable pub round : State → State
+  round s =
+      let now = s .time in
+      record {
+        site = releaseFinished now (withClosed now (charged (due now (s .site .pending) (s .site))));
+        time = now + 1;
+      }
+
+  -- the Rust's loop would not go round again
+  abbrev pub ended : State → Bool
+  ended s = isEmpty (s .site .pending) && (allFree (s .site .places) && isEmpty (s .site .queue))
+
+  abbrev pub start : State
+  start = record { site = initial t steps; time = 0 }
+
+  -- the state after up to n rounds
+  abbrev pub after : ℕ → State → State
+  after zero s = s
+  after (suc n) s = let more = after n (round s) in cond (ended s) s more
+
+  abbrev pub run : ℕ → State
+  run n = after n start

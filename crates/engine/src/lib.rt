@@ -1,0 +1,10 @@
+// Both engines (events.rs, session.rs, evse/site.rs, simulation/).
+pub mod bank;
+pub mod charger_state;
+pub mod discrete;
+pub mod events;
+pub mod power;
+pub mod session;
+pub mod site;
+pub mod thin;
+pub mod timestep;

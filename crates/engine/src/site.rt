@@ -1,0 +1,253 @@
+// The site (evse/site.rs).
+use crate::events::EventQueue;
+use crate::events::generate_arrival_events;
+use crate::session::Outcome;
+use crate::session::Session;
+use crate::session::Sessions;
+use crate::session::minus;
+use crate::session::uncharged;
+use charger::charge_profile_list::profile_curve;
+use charger::charger::Charger;
+use charger::charger::rated_power;
+use charger::vehicle::Vehicle;
+use charger::vehicle::fits;
+use charger::vehicle_list::VehicleList;
+use charger::waiting_queue::WaitingQueue;
+use curve::charge_profile::ChargingOutput;
+use curve::charge_profile::integrate_over;
+use curve::units::Amperes;
+use curve::units::Kw;
+use curve::units::Kwh;
+use curve::units::Volts;
+ghost use mathlib.Core.Path.{_≡_};
+ghost use mathlib.Core.Bool.{_&&_};
+ghost use mathlib.Core.List.{List};
+ghost use Prim.Native.Nat.{ℕ, _+_, _≤_, _<_};
+ghost use lib.Ieee.{Float};
+ghost use lib.ListN.{take};
+ghost use Rattle.charger.specs.Lists.{All};
+ghost use Rattle.charger.specs.Queue.{seek};
+ghost use Rattle.charger.specs.Vehicle.{compatible, listed};
+ghost use Rattle.engine.specs.Plan.{chargerAt, rowAt, rated, output};
+ghost use Rattle.engine.specs.SiteState.{below};
+ghost use Rattle.engine.specs.Code.{batteryAt, planOf, takes, InTime, Sound, Starts, poppedFirst, requeued, Booked, Turned, Reneged};
+
+// The most that all chargers may draw together.
+pub enum Limit {
+    Unlimited,
+    AtMost(Kw),
+}
+
+// What the engines read of a plan, but for its connectors and curves: the first `count` of `chargers`, and the battery of each profile.
+pub struct Site {
+    pub vehicles: VehicleList,
+    pub chargers: [Charger; 32],
+    pub count: usize,
+    pub batteries: [Kwh; 16],
+    pub limit: Limit,
+}
+
+// The state of a site but for what stands at its chargers.
+pub struct Simulation {
+    pub events: EventQueue,
+    pub queue: WaitingQueue,
+    pub sessions: Sessions,
+}
+
+impl Simulation {
+    // The start of a run: everybody is yet to arrive.
+    pub fn new(vehicles: VehicleList) -> Self
+        requires { ⌜ (vehicles .len ≤ 64) × All InTime (listed vehicles) ⌝ }
+        ensures { λ r. ⌜ Starts (listed vehicles) r ⌝ }
+    {
+        Simulation {
+            events: generate_arrival_events(vehicles),
+            queue: WaitingQueue::new(),
+            sessions: Sessions::new(),
+        }
+    }
+
+    // The first pending event is gone.
+    pub fn popped(self) -> Self
+        requires { ⌜ self .events .head < self .events .tail ⌝ }
+        ensures { λ r. ⌜ r ≡ poppedFirst self ⌝ }
+    {
+        let events = self.events;
+        let queue = self.queue;
+        let sessions = self.sessions;
+        let all = events.all;
+        Simulation {
+            events: EventQueue {
+                all: all,
+                head: events.head + 1,
+                tail: events.tail,
+            },
+            queue: queue,
+            sessions: sessions,
+        }
+    }
+
+    pub fn with_queue(self, queue: WaitingQueue) -> Self
+        ensures { λ r. ⌜ r ≡ requeued queue self ⌝ }
+    {
+        let events = self.events;
+        let sessions = self.sessions;
+        Simulation {
+            events: events,
+            queue: queue,
+            sessions: sessions,
+        }
+    }
+
+    pub fn with_session(self, x: Session) -> Self
+        requires { ⌜ self .sessions .len < 64 ⌝ }
+        ensures { λ r. ⌜ Booked x self r ⌝ }
+    {
+        let events = self.events;
+        let queue = self.queue;
+        let sessions = self.sessions;
+        Simulation {
+            events: events,
+            queue: queue,
+            sessions: sessions.pushed(x),
+        }
+    }
+
+    // The vehicle found no charger: it balks if the queue has reached its limit, else it waits.
+    pub fn turned_away(self, v: usize, vehicle: Vehicle) -> Self
+        requires { ⌜ Sound self × ((self .queue .len < 64) × (self .sessions .len < 64)) ⌝ }
+        ensures { λ r. ⌜ Turned v vehicle self r ⌝ }
+    {
+        let queue = self.queue;
+        if vehicle.limit <= queue.len {
+            return self.with_session(uncharged(v, Outcome::Balked, 0));
+        }
+        self.with_queue(queue.push_back(v))
+    }
+
+    // A renege finds its vehicle queued, and it leaves, or finds nobody.
+    pub fn renege(self, time: u64, v: usize, vehicles: VehicleList) -> Self
+        requires { ⌜ Sound self × (self .sessions .len + self .queue .len ≤ 64) ⌝ }
+        ensures { λ r. ⌜ Reneged (listed vehicles) time v self r ⌝ }
+    {
+        let queue = self.queue;
+        let popped = queue.remove(v);
+        if popped.found {
+            let left = popped.queue;
+            let vehicle = vehicles.get_vehicle(popped.id);
+            self.with_queue(left).with_session(uncharged(
+                popped.id,
+                Outcome::Reneged,
+                minus(time, vehicle.arrival),
+            ))
+        } else {
+            self
+        }
+    }
+}
+
+// The charger is free, and fits the vehicle.
+fn takes(free: bool, row: [bool; 5], vehicle: Vehicle) -> bool
+    ensures { λ r. ⌜ r ≡ (free && compatible row vehicle) ⌝ }
+{
+    if free {
+        return fits(row, vehicle);
+    }
+    false
+}
+
+// The first free charger that fits, or `count` where there is none.
+pub fn free_charger(
+    free: [bool; 32],
+    rows: [[bool; 5]; 32],
+    count: usize,
+    vehicle: Vehicle,
+) -> usize
+    requires { ⌜ count ≤ 32 ⌝ }
+    ensures { λ r. ⌜ r ≡ seek (takes free (take count rows) vehicle) (below count) ⌝ }
+{
+    let mut c = 0;
+    while c < count {
+        if takes(free[c], rows[c], vehicle) {
+            return c;
+        }
+        c += 1;
+    }
+    c
+}
+
+// A charger's row; past the last there is no connector.
+pub fn row_of(rows: [[bool; 5]; 32], count: usize, c: usize) -> [bool; 5]
+    ensures { λ r. ⌜ r ≡ rowAt (take count rows) c ⌝ }
+{
+    if c < count {
+        if c < 32 {
+            return rows[c];
+        }
+    }
+    [false; 5]
+}
+
+// A charger; past the last, one with no power.
+pub fn charger_of(site: Site, c: usize) -> Charger
+    ensures { λ r. ⌜ r ≡ chargerAt (take (site .count) (site .chargers)) c ⌝ }
+{
+    let chargers = site.chargers;
+    if c < site.count {
+        if c < 32 {
+            return chargers[c];
+        }
+    }
+    Charger {
+        max_power: Kw(0.0),
+        current: Amperes(0.0),
+        voltage: Volts(0.0),
+    }
+}
+
+// A profile's battery; past the last, none.
+pub fn battery_of(site: Site, profile: usize) -> Kwh
+    ensures { λ r. ⌜ r ≡ batteryAt (site .batteries) profile ⌝ }
+{
+    let batteries = site.batteries;
+    if profile < 16 {
+        return batteries[profile];
+    }
+    Kwh(0.0)
+}
+
+// The rated power of a vehicle at a charger.
+pub fn rated_of(site: Site, rows: [[bool; 5]; 32], v: usize, c: usize) -> Kw
+    ensures { λ r. ⌜ ((curves : List (List Float)) (lens : List ℕ) → r ≡ rated (planOf site rows curves lens) v c) ⌝ }
+{
+    let vehicles = site.vehicles;
+    rated_power(
+        charger_of(site, c),
+        row_of(rows, site.count, c),
+        vehicles.get_vehicle(v),
+    )
+}
+
+// What charging the vehicle at the charger takes.
+pub fn charging_output(
+    site: Site,
+    rows: [[bool; 5]; 32],
+    curves: &[[f64; 2]],
+    lens: &[u8],
+    v: usize,
+    c: usize,
+) -> ChargingOutput
+    ensures { λ r. ⌜ r ≡ output (planOf site rows (now (curves .entry)) (now (lens .entry))) v c ⌝ }
+{
+    let vehicles = site.vehicles;
+    let vehicle = vehicles.get_vehicle(v);
+    let rated = rated_of(site, rows, v, c);
+    let battery = battery_of(site, vehicle.profile);
+    integrate_over(
+        profile_curve(curves, lens, vehicle.profile),
+        battery,
+        vehicle.start,
+        vehicle.target,
+        rated,
+    )
+}

@@ -1,0 +1,49 @@
+-- Laws of the kinds of a plan's blocks and of the table of refusals. Assumes nothing.
+use mathlib.Core.Path.{_≡_, refl}
+use mathlib.Core.Bool.{true, false, _&&_}
+use mathlib.Core.List.{List}
+use Prim.Native.Nat.{ℕ, zero, suc, _+_, _-_, _%_, _<_, _≤_}
+use native.Mathlib.Numerals.{add-one}
+use native.Mathlib.Omega.{arith}
+use borrow.Author.Tests.{le-leb, lt-ltb, le-ltb, leb-true}
+use lib.Dec.{eqb·suc-zero, leb, ltb, eqb}
+use lib.ListN.{length, getD, drop}
+use lib.Seq.{drop-cons}
+use Rattle.files.specs.Bytes.{leAt}
+use Rattle.files.specs.Search.{first}
+use Rattle.files.specs.Plan.{kindAt, isVehicle, idAt, withId, broken, refusal, lengthOk}
+use Rattle.files.specs.declared.plan.Rule.{Rule}
+use Rattle.files.specs.declared.plan.Rule.the-variants.{Length}
+use Rattle.files.specs.declared.plan.Answer.the-variants.{Refused}
+use Rattle.files.proofs.SearchLaws.{first-from, first-to, and-true}
+
+-- the vehicles come after the profiles
+pub no-vehicle : (plan : List ℕ) (k : ℕ) → k < 1 + leAt 2 plan 4 → isVehicle (kindAt plan k) ≡ false
+unfolding kindAt
+no-vehicle plan zero h = refl
+no-vehicle plan (suc k) h = rw (eqb·suc-zero k, le-leb (suc k) (leAt 2 plan 4) (omega arith))
+
+-- a rule that is tested: its first block is k, which is one of the n, or there is none
+module _ (rs : List Rule) (plan : List ℕ) (n i : ℕ) (r : Rule) (k : ℕ) (h : i < length rs) (p : r ≡ getD rs i Length) (q : k ≡ first (broken r plan) 0 n) where
+  pub refusal-hit : k < n → refusal (drop i rs) plan n ≡ Refused r (k + 1)
+  unfolding refusal
+  refusal-hit l = rw (drop-cons rs i Length h, ← p, ← q, lt-ltb k n l)
+
+  pub refusal-miss : n ≤ k → refusal (drop i rs) plan n ≡ refusal (drop (i + 1) rs) plan n
+  unfolding refusal
+  refusal-miss l = rw (drop-cons rs i Length h, ← p, ← q, le-ltb k n l, add-one i)
+
+-- a plan that is not refused by its length has at most 113 blocks
+pub length-limit : (n : ℕ) → lengthOk n ≡ true → n ≤ 57856
+unfolding lengthOk
+length-limit n e = leb-true n 57856 (and-true (ltb 0 n && eqb (n % 512) 0) (leb n 57856) e .1)
+
+-- a search begins at its start
+pub with-id-from : (plan : List ℕ) (from to id : ℕ) → from ≤ withId plan from to id
+unfolding withId
+with-id-from plan from to id = first-from (λ j. eqb (idAt plan j) id) from (to - from)
+
+-- and does not go past its end
+pub with-id-to : (plan : List ℕ) (from to id : ℕ) → from ≤ to → withId plan from to id ≤ to
+unfolding withId
+with-id-to plan from to id h = omega (arith, first-to (λ j. eqb (idAt plan j) id) from (to - from))

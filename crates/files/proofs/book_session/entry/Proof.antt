@@ -1,0 +1,97 @@
+-- `files::book_session::entry` meets its contract. Assumes nothing.
+use borrow.Author.Needs.{needs}
+use Rattle.files.proofs.book_session.entry.Statement.{statement}
+use Rattle.files.proofs.book_session.entry.Tie as tie
+
+plugged-requires : tie.Need-plugged-requires
+plugged-requires c κs = search needs
+
+charged-requires : tie.Need-charged-requires
+charged-requires c κs = search needs
+
+get-vehicle-requires : tie.Need-get-vehicle-requires
+get-vehicle-requires c κs = search needs
+
+u16-at-requires : tie.Need-u16-at-requires
+u16-at-requires c κs = search needs
+
+row-of-requires : tie.Need-row-of-requires
+row-of-requires c κs = search needs
+
+vehicle-number-requires : tie.Need-vehicle-number-requires
+vehicle-number-requires c κs = search needs
+
+vehicle-number-requires-2 : tie.Need-vehicle-number-requires-2
+vehicle-number-requires-2 c κs = search needs
+
+charger-id-requires : tie.Need-charger-id-requires
+charger-id-requires c κs = search needs
+
+connector-code-requires : tie.Need-connector-code-requires
+connector-code-requires c κs = search needs
+
+outcome-number-requires : tie.Need-outcome-number-requires
+outcome-number-requires c κs = search needs
+
+kept-number-requires : tie.Need-kept-number-requires
+kept-number-requires c κs = search needs
+
+kept-number-requires-2 : tie.Need-kept-number-requires-2
+kept-number-requires-2 c κs = search needs
+
+kept-requires : tie.Need-kept-requires
+kept-requires c κs = search needs
+
+kept-requires-2 : tie.Need-kept-requires-2
+kept-requires-2 c κs = search needs
+
+kept-requires-3 : tie.Need-kept-requires-3
+kept-requires-3 c κs = search needs
+
+kept-requires-4 : tie.Need-kept-requires-4
+kept-requires-4 c κs = search needs
+
+kept-requires-5 : tie.Need-kept-requires-5
+kept-requires-5 c κs = search needs
+
+returns : tie.Need-returns
+returns c =
+    let energy = c .before in
+    let peak = energy .before in
+    let idle = peak .before in
+    let duration = idle .before in
+    let unplug = duration .before in
+    let plugin = unplug .before in
+    let outcome = plugin .before in
+    let connector = outcome .before in
+    let charger = connector .before in
+    let profile = charger .before in
+    let id = profile .before in
+    let row = id .before in
+    let count = row .before in
+    let car = count .before in
+    let done = car .before in
+    simp (c .kept5 .ensures, energy .kept4 .ensures, peak .kept3 .ensures, idle .kept2 .ensures, duration .kept .ensures, unplug .kept-number2 .ensures, plugin .kept-number .ensures, outcome .outcome-number .ensures, connector .connector-code .ensures, charger .charger-id .ensures, profile .vehicle-number2 .ensures, id .vehicle-number .ensures, row .row-of .ensures, count .u16-at .ensures .0, car .get-vehicle .ensures, done .charged .ensures, done .before .plugged .ensures)
+
+pub entry-spec : {M : Type 1} → statement M
+entry-spec =
+    tie.close
+    (tie.spec
+    plugged-requires
+    charged-requires
+    get-vehicle-requires
+    u16-at-requires
+    row-of-requires
+    vehicle-number-requires
+    vehicle-number-requires-2
+    charger-id-requires
+    connector-code-requires
+    outcome-number-requires
+    kept-number-requires
+    kept-number-requires-2
+    kept-requires
+    kept-requires-2
+    kept-requires-3
+    kept-requires-4
+    kept-requires-5
+    returns)

@@ -1,0 +1,41 @@
+-- `files::plan::counts_ok` meets its contract. Assumes nothing.
+use borrow.Author.Needs.{needs}
+use Rattle.files.proofs.plan.counts_ok.Statement.{statement}
+use Rattle.files.proofs.plan.counts_ok.Tie as tie
+
+u16-at-requires : tie.Need-u16-at-requires
+u16-at-requires c κs = search needs
+
+u16-at-requires-2 : tie.Need-u16-at-requires-2
+u16-at-requires-2 c κs = search needs
+
+u16-at-requires-3 : tie.Need-u16-at-requires-3
+u16-at-requires-3 c κs = search needs
+
+letters-ok-requires : tie.Need-letters-ok-requires
+letters-ok-requires c κs = search needs
+
+add-result : tie.Need-add-result
+add-result c = search needs
+
+add-result-2 : tie.Need-add-result-2
+add-result-2 c = search needs
+
+add-result-3 : tie.Need-add-result-3
+add-result-3 c = search needs
+
+returns : tie.Need-returns
+returns c = cc
+
+pub counts-ok-spec : {M : Type 1} → statement M
+counts-ok-spec =
+    tie.close
+    (tie.spec
+    u16-at-requires
+    u16-at-requires-2
+    u16-at-requires-3
+    letters-ok-requires
+    add-result
+    add-result-2
+    add-result-3
+    returns)

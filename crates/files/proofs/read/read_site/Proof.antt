@@ -1,0 +1,43 @@
+-- `files::read::read_site` meets its contract. Assumes nothing.
+use borrow.Author.Needs.{needs}
+use Rattle.files.proofs.read.read_site.Statement.{statement}
+use Rattle.files.proofs.read.read_site.Tie as tie
+
+read-vehicles-requires : tie.Need-read-vehicles-requires
+read-vehicles-requires c κs = search needs
+
+read-chargers-requires : tie.Need-read-chargers-requires
+read-chargers-requires c κs = search needs
+
+u16-at-requires : tie.Need-u16-at-requires
+u16-at-requires c κs = search needs
+
+read-batteries-requires : tie.Need-read-batteries-requires
+read-batteries-requires c κs = search needs
+
+read-limit-requires : tie.Need-read-limit-requires
+read-limit-requires c κs = search needs
+
+returns : tie.Need-returns
+returns c =
+    let at-count = c .before .before in
+    let vehicles = at-count .before .before .read-vehicles .ensures in
+    record {
+      vehicles = vehicles .0;
+      vehicleCount = vehicles .1;
+      chargers = rw (at-count .u16-at .ensures .0) (at-count .before .read-chargers .ensures);
+      chargerCount = at-count .u16-at .ensures .0;
+      batteries = c .before .read-batteries .ensures;
+      limit = c .read-limit .ensures;
+    }
+
+pub read-site-spec : {M : Type 1} → statement M
+read-site-spec =
+    tie.close
+    (tie.spec
+    read-vehicles-requires
+    read-chargers-requires
+    u16-at-requires
+    read-batteries-requires
+    read-limit-requires
+    returns)

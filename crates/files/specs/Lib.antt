@@ -1,0 +1,14 @@
+-- What the contracts of the crate cite.
+pub mod Bytes
+pub mod Blocks
+pub mod Search
+pub mod Fields
+pub mod Plan
+pub mod Read
+pub mod Pairs
+pub mod Check
+pub mod BookSession
+pub mod Book
+pub mod Totals
+pub mod Call
+pub mod Demand

@@ -1,0 +1,206 @@
+// What the book says of a session.
+use crate::blocks::block;
+use crate::bytes::u16_at;
+use crate::bytes::u32_at;
+use charger::connector::Resolved;
+use charger::vehicle::Vehicle;
+use charger::vehicle::connector_of;
+use charger::vehicle_list::VehicleList;
+use curve::units::Kw;
+use curve::units::Kwh;
+use curve::units::Seconds;
+use engine::session::Outcome;
+use engine::session::Session;
+use engine::session::Sessions;
+use engine::site::row_of;
+ghost use mathlib.Core.Path.{_≡_};
+ghost use mathlib.Core.Bool.{cond};
+ghost use mathlib.Core.List.{map};
+ghost use Prim.Native.Nat.{_+_, _≤_};
+ghost use lib.ListN.{take};
+ghost use Rattle.charger.specs.Vehicle.{connectorOf, listed};
+ghost use Rattle.engine.specs.Code.{booked};
+ghost use Rattle.files.specs.Fields.{chargerCount};
+ghost use Rattle.files.specs.Read.{Counted};
+ghost use Rattle.engine.specs.Demand.{outcomeNumber};
+ghost use Rattle.files.specs.BookSession.{plugged as BookSession·plugged, charged as BookSession·charged, kept as BookSession·kept, codeOf, vehicleNumber, chargerId, entry as BookSession·entry, noSession};
+
+// A session as the book holds it; what is missing by its outcome is 0.
+pub struct BookSession {
+    pub vehicle_id: u32,
+    pub profile_id: u32,
+    pub charger_id: u32,
+    pub connector: u8,
+    pub outcome: u8,
+    pub arrival: u64,
+    pub plugin: u64,
+    pub unplug: u64,
+    pub wait: u64,
+    pub duration: Seconds,
+    pub idle: Seconds,
+    pub peak: Kw,
+    pub energy: Kwh,
+    pub start: f64,
+    pub end: f64,
+}
+
+// The paper's number of an outcome.
+pub fn outcome_number(outcome: Outcome) -> u8
+    ensures { λ r. ⌜ r ≡ outcomeNumber outcome ⌝ }
+{
+    match outcome {
+        Outcome::Open => 0,
+        Outcome::Charged => 1,
+        Outcome::Reneged => 2,
+        Outcome::Balked => 3,
+    }
+}
+
+// The session has a charger.
+fn plugged(outcome: Outcome) -> bool
+    ensures { λ r. ⌜ r ≡ BookSession·plugged outcome ⌝ }
+{
+    match outcome {
+        Outcome::Open => true,
+        Outcome::Charged => true,
+        Outcome::Reneged => false,
+        Outcome::Balked => false,
+    }
+}
+
+// The session has its unplug time and its charging output.
+fn charged(outcome: Outcome) -> bool
+    ensures { λ r. ⌜ r ≡ BookSession·charged outcome ⌝ }
+{
+    match outcome {
+        Outcome::Open => false,
+        Outcome::Charged => true,
+        Outcome::Reneged => false,
+        Outcome::Balked => false,
+    }
+}
+
+// A number, 0 where it is missing.
+fn kept_number(there: bool, x: u64) -> u64
+    ensures { λ r. ⌜ r ≡ cond there x 0 ⌝ }
+{
+    if there { x } else { 0 }
+}
+
+// A float, 0 where it is missing.
+fn kept(there: bool, x: f64) -> f64
+    ensures { λ r. ⌜ r ≡ BookSession·kept there x ⌝ }
+{
+    if there { x } else { 0.0 }
+}
+
+// A number of a vehicle's block: its id at 0, its profile's id at 4.
+fn vehicle_number(plan: &[u8], v: usize, at: usize) -> u32
+    requires { ⌜ Counted (now plan) × (at + 4 ≤ 512) ⌝ }
+    ensures { λ r. ⌜ r ≡ vehicleNumber (now (plan .entry)) v at ⌝ }
+{
+    if v < u16_at(plan, 8) {
+        return u32_at(block(plan, 1 + u16_at(plan, 4) + u16_at(plan, 6) + v), at);
+    }
+    0
+}
+
+// The id of the charger that the session has.
+fn charger_id(plan: &[u8], there: bool, c: usize) -> u32
+    requires { ⌜ Counted (now plan) ⌝ }
+    ensures { λ r. ⌜ r ≡ cond there (chargerId (now (plan .entry)) c) 0 ⌝ }
+{
+    if !there {
+        return 0;
+    }
+    if c < u16_at(plan, 6) {
+        return u32_at(block(plan, 1 + u16_at(plan, 4) + c), 0);
+    }
+    0
+}
+
+// The code of the connector that the session has.
+fn connector_code(there: bool, row: [bool; 5], vehicle: Vehicle) -> u8
+    ensures { λ r. ⌜ r ≡ cond there (codeOf (connectorOf row vehicle)) 0 ⌝ }
+{
+    if !there {
+        return 0;
+    }
+    match connector_of(row, vehicle) {
+        Resolved::Connector(code) => code,
+        Resolved::Nothing => 0,
+    }
+}
+
+// What the book says of a session.
+fn entry(plan: &[u8], vehicles: VehicleList, rows: [[bool; 5]; 32], x: Session) -> BookSession
+    requires { ⌜ Counted (now plan) ⌝ }
+    ensures { λ r. ⌜ r ≡ BookSession·entry (now (plan .entry)) (listed vehicles) (take (chargerCount (now (plan .entry))) rows) x ⌝ }
+{
+    let outcome = x.outcome;
+    let there = plugged(outcome);
+    let done = charged(outcome);
+    let vehicle = vehicles.get_vehicle(x.vehicle);
+    let row = row_of(rows, u16_at(plan, 6), x.charger);
+    BookSession {
+        vehicle_id: vehicle_number(plan, x.vehicle, 0),
+        profile_id: vehicle_number(plan, x.vehicle, 4),
+        charger_id: charger_id(plan, there, x.charger),
+        connector: connector_code(there, row, vehicle),
+        outcome: outcome_number(outcome),
+        arrival: vehicle.arrival,
+        plugin: kept_number(there, x.plugin),
+        unplug: kept_number(done, x.unplug),
+        wait: x.wait,
+        duration: Seconds(kept(done, x.duration.0)),
+        idle: Seconds(kept(there, vehicle.idle.0)),
+        peak: Kw(kept(done, x.peak.0)),
+        energy: Kwh(kept(done, x.energy.0)),
+        start: vehicle.start,
+        end: kept(there, vehicle.target),
+    }
+}
+
+pub fn no_session() -> BookSession
+    ensures { λ r. ⌜ r ≡ noSession ⌝ }
+{
+    BookSession {
+        vehicle_id: 0,
+        profile_id: 0,
+        charger_id: 0,
+        connector: 0,
+        outcome: 0,
+        arrival: 0,
+        plugin: 0,
+        unplug: 0,
+        wait: 0,
+        duration: Seconds(0.0),
+        idle: Seconds(0.0),
+        peak: Kw(0.0),
+        energy: Kwh(0.0),
+        start: 0.0,
+        end: 0.0,
+    }
+}
+
+// What the book says of all sessions: as many of the array's first as there are sessions.
+pub fn entries(
+    plan: &[u8],
+    vehicles: VehicleList,
+    rows: [[bool; 5]; 32],
+    sessions: Sessions,
+) -> [BookSession; 64]
+    requires { ⌜ Counted (now plan) × (sessions .len ≤ 64) ⌝ }
+    ensures { λ r. ⌜ take (sessions .len) r ≡ map (BookSession·entry (now (plan .entry)) (listed vehicles) (take (chargerCount (now (plan .entry))) rows)) (booked sessions) ⌝ }
+{
+    let n = sessions.len;
+    let xs = sessions.all;
+    let none = no_session();
+    let mut all = [none; 64];
+    let mut i = 0;
+    while i < n {
+        all[i] = entry(plan, vehicles, rows, xs[i]);
+        i += 1;
+    }
+    all
+}

@@ -1,0 +1,114 @@
+//! Every change that the copied source undergoes. A text must stand exactly once in its file, else the build stops.
+
+#[derive(Clone, Copy)]
+pub struct Change {
+    pub file: &'static str,
+    pub old: &'static str,
+    pub new: &'static str,
+    /// All from the old text to the file's end is replaced.
+    pub to_the_end: bool,
+}
+
+pub const fn change(file: &'static str, old: &'static str, new: &'static str) -> Change {
+    Change { file, old, new, to_the_end: false }
+}
+
+const STD_HEAP: &str = "use std::collections::BinaryHeap;\n";
+const STAND_IN_HEAP: &str = "use binary_heap::BinaryHeap;\n";
+
+pub const CHANGES: [Change; 13] = [
+    // Document 01's stand-in for the heap. (The map's stand-in takes the crate's own name.)
+    change("containers/vehicle_list.rs", STD_HEAP, STAND_IN_HEAP),
+    change("evse/charger.rs", STD_HEAP, STAND_IN_HEAP),
+    change("simulation/discrete.rs", STD_HEAP, STAND_IN_HEAP),
+    change("simulation/timestep.rs", STD_HEAP, STAND_IN_HEAP),
+    // The builder of vehicles samples; the oracle makes vehicles from the plan.
+    change("ev/vehicle.rs", "use crate::distributions::{DurationSampler, ItemSampler, SocSampler};\n", ""),
+    change("ev/vehicle.rs", "use rand::Rng;\n", ""),
+    Change { file: "ev/vehicle.rs", old: "impl Vehicle {\n", new: "", to_the_end: true },
+    // Events: the loop is cut after the allowance's popped events.
+    change("simulation/discrete.rs", RUN, RUN_CUT),
+    change(
+        "simulation/discrete.rs",
+        "        while let Some(event) = self.event_queue.pop() {\n",
+        "        while used < allowance
+            && let Some(event) = self.event_queue.pop()
+        {
+            used += 1;
+",
+    ),
+    change(
+        "simulation/discrete.rs",
+        RUN_END,
+        "        Ok(used)
+    }
+
+    pub fn ended(&self) -> bool {
+        self.event_queue.is_empty()
+    }
+
+    pub fn yet_to_arrive(&self) -> usize {
+        self.event_queue.iter().filter(|event| event.event_type == EventType::Arrival).count()
+    }
+
+    pub fn queued(&self) -> usize {
+        self.waiting_queue.len()
+    }
+
+    ///
+    /// Get the simulation's session data.
+",
+    ),
+    // Steps: the loop is cut after the allowance's rounds.
+    change("simulation/timestep.rs", RUN, RUN_CUT),
+    change(
+        "simulation/timestep.rs",
+        "        while !self.event_queue.is_empty()
+            || !self.active_charger_states.is_empty()
+            || !self.waiting_queue.is_empty()
+        {
+",
+        "        while used < allowance
+            && (!self.event_queue.is_empty()
+                || !self.active_charger_states.is_empty()
+                || !self.waiting_queue.is_empty())
+        {
+            used += 1;
+",
+    ),
+    change(
+        "simulation/timestep.rs",
+        RUN_END,
+        "        Ok(used)
+    }
+
+    pub fn ended(&self) -> bool {
+        !(!self.event_queue.is_empty()
+            || !self.active_charger_states.is_empty()
+            || !self.waiting_queue.is_empty())
+    }
+
+    pub fn yet_to_arrive(&self) -> usize {
+        self.event_queue.iter().filter(|event| event.event_type == EventType::Arrival).count()
+    }
+
+    pub fn queued(&self) -> usize {
+        self.waiting_queue.len()
+    }
+
+    ///
+    /// Get the simulation's session data.
+",
+    ),
+];
+
+const RUN: &str = "    pub fn run(&mut self) -> Result<(), SimulationError> {\n";
+const RUN_CUT: &str = "    pub fn run(&mut self, allowance: u32) -> Result<u32, SimulationError> {
+        let mut used = 0;
+";
+const RUN_END: &str = "        Ok(())
+    }
+
+    ///
+    /// Get the simulation's session data.
+";

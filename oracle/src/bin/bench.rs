@@ -1,0 +1,231 @@
+//! Times the original and the product on the same inputs, by call, in one process.
+use oracle::Numbers;
+use oracle::book::LEAST_BOOK;
+use oracle::draft::{Car, Draft, charger, profile};
+use oracle::draw::Draw;
+use oracle::generate;
+use oracle::sides::{OTHER, other_check, other_run};
+use std::hint::black_box;
+
+const REPETITIONS: usize = 15;
+/// Calls are repeated within one measurement until it takes about this long, in nanoseconds.
+const MEASUREMENT: f64 = 10e6;
+
+struct Work {
+    name: String,
+    plan: Vec<u8>,
+    /// Engine and allowance of a run; a check has none.
+    run: Option<(u32, u32)>,
+    /// What the time is divided by: rounds, or one call.
+    per: Per,
+}
+
+enum Per {
+    Round,
+    Call,
+}
+
+type Check = fn(&[u8]) -> Numbers;
+type Run = fn(&[u8], u32, u32, &mut [u8]) -> Numbers;
+
+fn main() {
+    println!(
+        "The original and {OTHER}: medians of {REPETITIONS} measurements each, in turn; the ratio is the median of the pairs' ratios. Times are processor time. Buffers are not cleared.\n"
+    );
+    println!("| work | original | other | other / original |");
+    println!("|---|---|---|---|");
+    for work in works() {
+        let times = measure(&work);
+        let ratios = times[1].iter().zip(&times[0]).map(|(other, original)| other / original).collect();
+        let [original, other] = times.map(median);
+        println!("| {} | {} | {} | {:.2} |", work.name, shown(&work, original), shown(&work, other), median(ratios));
+    }
+}
+
+fn shown(work: &Work, nanoseconds: f64) -> String {
+    match work.per {
+        Per::Round => format!("{nanoseconds:.1} ns a round"),
+        Per::Call => format!("{:.2} µs", nanoseconds / 1_000.0),
+    }
+}
+
+/// Nanoseconds of each repetition, the two sides in alternating order.
+fn measure(work: &Work) -> [Vec<f64>; 2] {
+    let sides: [(Check, Run); 2] = [(oracle::check, oracle::run), (other_check, other_run)];
+    let mut book = vec![0; LEAST_BOOK];
+    let mut call = |(check, run): (Check, Run)| match work.run {
+        Some((engine, allowance)) => run(black_box(&work.plan), engine, allowance, black_box(&mut book)),
+        None => check(black_box(&work.plan)),
+    };
+    let answers = sides.map(&mut call);
+    assert_eq!(answers[0], answers[1], "{}", work.name);
+    assert_eq!(answers[0][0], 0, "{} is refused", work.name);
+    let units = match work.per {
+        Per::Round => answers[0][3] as f64,
+        Per::Call => 1.0,
+    };
+    let calls = sides.map(|side| {
+        let started = thread_time();
+        call(side);
+        (MEASUREMENT / (thread_time() - started)).clamp(1.0, 100_000.0) as u32
+    });
+    let mut times = [Vec::new(), Vec::new()];
+    for repetition in 0..REPETITIONS {
+        for turn in 0..2 {
+            let side = (repetition + turn) % 2;
+            let started = thread_time();
+            for _ in 0..calls[side] {
+                black_box(call(sides[side]));
+            }
+            times[side].push((thread_time() - started) / f64::from(calls[side]) / units);
+        }
+    }
+    times
+}
+
+#[repr(C)]
+struct Timespec {
+    seconds: i64,
+    nanoseconds: i64,
+}
+
+unsafe extern "C" {
+    fn clock_gettime(clock: i32, time: *mut Timespec) -> i32;
+}
+
+/// Nanoseconds of processor time that this thread has used, so that other work on the machine counts less.
+fn thread_time() -> f64 {
+    const CLOCK_THREAD_CPUTIME_ID: i32 = 3;
+    let mut time = Timespec { seconds: 0, nanoseconds: 0 };
+    // SAFETY: the pointer is to a timespec of this platform (x86-64 Linux, as the archive).
+    unsafe { clock_gettime(CLOCK_THREAD_CPUTIME_ID, &mut time) };
+    time.seconds as f64 * 1e9 + time.nanoseconds as f64
+}
+
+fn median(mut times: Vec<f64>) -> f64 {
+    times.sort_by(f64::total_cmp);
+    times[times.len() / 2]
+}
+
+fn works() -> Vec<Work> {
+    let mut works = Vec::new();
+    for chargers in [1, 4, 32] {
+        for points in [1, 30] {
+            for high in [false, true] {
+                for limited in [false, true] {
+                    works.push(rounds(chargers, points, high, limited));
+                }
+            }
+        }
+    }
+    works.push(day());
+    works.push(far_apart());
+    works.push(Work {
+        name: "events: 64 vehicles, 32 chargers".into(),
+        plan: busy_site(32),
+        run: Some((0, 10_000_000)),
+        per: Per::Call,
+    });
+    works.push(Work {
+        name: "events: 64 vehicles, 2 chargers".into(),
+        plan: busy_site(2),
+        run: Some((0, 10_000_000)),
+        per: Per::Call,
+    });
+    works.push(Work { name: "check of a largest plan".into(), plan: largest(), run: None, per: Per::Call });
+    works.push(Work {
+        name: "check of one vehicle and one charger".into(),
+        plan: steady(1, 1, false, false),
+        run: None,
+        per: Per::Call,
+    });
+    works
+}
+
+/// Cars that all plug in at once and charge slowly for the whole allowance.
+fn steady(chargers: u32, points: u32, high: bool, limited: bool) -> Vec<u8> {
+    let mut draft = Draft::default();
+    // Powers about 2 kW, so that 1,024 kWh move little in the allowance.
+    let curve: Vec<(f64, f64)> = (0..points).map(|k| (f64::from(k) / 30.0, 2.0 + f64::from(k % 7) / 8.0)).collect();
+    draft.profiles.push(profile(1, 1_024.0, &curve));
+    if limited {
+        draft.set_limit(1.5 * f64::from(chargers));
+    }
+    let (start, target) = if high { (0.9, 1.0) } else { (0.05, 0.15) };
+    for k in 0..chargers {
+        draft.chargers.push(charger(k, &[], 50.0, 1_200.0, 400.0));
+        let car = Car { id: k, start, target, arrival: 0, wait: 1_000_000, ..Car::default() };
+        draft.vehicles.push(car.block());
+    }
+    draft.bytes()
+}
+
+fn rounds(chargers: u32, points: u32, high: bool, limited: bool) -> Work {
+    let name = format!(
+        "steps: {chargers} busy, {points} point{}, {} SOC{}",
+        if points == 1 { "" } else { "s" },
+        if high { "high" } else { "low" },
+        if limited { ", limit binds" } else { "" }
+    );
+    Work { name, plan: steady(chargers, points, high, limited), run: Some((1, 100_000)), per: Per::Round }
+}
+
+/// Four chargers and twenty cars over a day, most of them in two rush hours.
+fn day() -> Work {
+    let mut draw = Draw::new(5, 0);
+    let mut draft = Draft::default();
+    let curve: Vec<(f64, f64)> = (0..10).map(|k| (f64::from(k) / 10.0, 150.0 - 12.0 * f64::from(k))).collect();
+    draft.profiles.push(profile(1, 60.0, &curve));
+    draft.set_limit(250.0);
+    for k in 0..4 {
+        draft.chargers.push(charger(k, &[], 100.0, 400.0, 400.0));
+    }
+    for id in 0..20 {
+        let arrival = draw.pick(&[8 * 3_600, 17 * 3_600]) + draw.below(3_600);
+        let car = Car { id, start: draw.float(0.1, 0.4), target: draw.float(0.6, 0.9), arrival, ..Car::default() };
+        draft.vehicles.push(car.block());
+    }
+    Work {
+        name: "steps: a day of 20 cars with long empty hours".into(),
+        plan: draft.bytes(),
+        run: Some((1, 10_000_000)),
+        per: Per::Call,
+    }
+}
+
+/// Two short stays almost twelve days apart.
+fn far_apart() -> Work {
+    let mut draft = Draft::default();
+    draft.profiles.push(profile(1, 50.0, &[(0.5, 50.0)]));
+    draft.chargers.push(charger(1, &[], 50.0, 1_200.0, 400.0));
+    for (id, arrival) in [(1, 0), (2, 1_000_000)] {
+        draft.vehicles.push(Car { id, arrival, wait: 0, start: 0.5, target: 0.51, ..Car::default() }.block());
+    }
+    Work {
+        name: "steps: two cars 1,000,000 s apart".into(),
+        plan: draft.bytes(),
+        run: Some((1, 10_000_000)),
+        per: Per::Call,
+    }
+}
+
+/// A largest plan that is accepted; it keeps its first chargers.
+fn site(chargers: usize) -> Draft {
+    let mut draw = Draw::new(9, 0);
+    loop {
+        let case = generate::shaped("largest", &mut draw);
+        if oracle::check(&case.plan)[0] == 0 {
+            let mut draft = Draft::of(&case.plan).unwrap();
+            draft.chargers.truncate(chargers);
+            return draft;
+        }
+    }
+}
+
+fn busy_site(chargers: usize) -> Vec<u8> {
+    site(chargers).bytes()
+}
+
+fn largest() -> Vec<u8> {
+    site(32).bytes()
+}

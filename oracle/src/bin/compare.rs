@@ -1,0 +1,144 @@
+//! Compares product and oracle over cases by seed, and shrinks the first difference.
+use oracle::draw::Draw;
+use oracle::generate::{self, Case};
+use oracle::shrink::shrink;
+use oracle::sides::{OTHER, Side, difference_on_input};
+use oracle::{blocks, program, words};
+use std::collections::BTreeMap;
+use std::path::PathBuf;
+use std::process::ExitCode;
+use std::time::Instant;
+
+const USAGE: &str = "compare [--cases N] [--seed S] [--from INDEX] [--program PATH] [--sweep] [--trace]
+
+By call: the product that SITE_ARCHIVE named at build time, else the copy with the slip that SLIP named.
+--program compares a program by standard input and output instead.
+--sweep damages a small plan at every byte in place of drawn cases.
+--trace names each case on standard error before it runs, for a side that may crash or hang.";
+
+struct Options {
+    cases: u64,
+    seed: u64,
+    from: u64,
+    program: Option<PathBuf>,
+    sweep: bool,
+    trace: bool,
+}
+
+fn options() -> Option<Options> {
+    let mut options = Options { cases: 20_000, seed: 1, from: 0, program: None, sweep: false, trace: false };
+    let mut words = std::env::args().skip(1);
+    while let Some(word) = words.next() {
+        match word.as_str() {
+            "--cases" => options.cases = words.next()?.parse().ok()?,
+            "--seed" => options.seed = words.next()?.parse().ok()?,
+            "--from" => options.from = words.next()?.parse().ok()?,
+            "--program" => options.program = Some(words.next()?.into()),
+            "--sweep" => options.sweep = true,
+            "--trace" => options.trace = true,
+            _ => return None,
+        }
+    }
+    Some(options)
+}
+
+fn main() -> ExitCode {
+    let Some(options) = options() else {
+        eprintln!("{USAGE}");
+        return ExitCode::from(2);
+    };
+    let started = Instant::now();
+    let side = match &options.program {
+        Some(path) => Side::Program(path.clone()),
+        None => Side::Linked,
+    };
+    let name = options.program.as_ref().map_or(OTHER.to_string(), |path| path.display().to_string());
+    println!("the oracle and {name}, seed {}", options.seed);
+    if let Some(path) = &options.program
+        && let Some(what) = short_inputs(path)
+    {
+        println!("DIFFERENCE {what}");
+        return ExitCode::FAILURE;
+    }
+    let mut answers = BTreeMap::new();
+    let mut compared = 0;
+    let cases: Box<dyn Iterator<Item = Case>> = match options.sweep {
+        true => Box::new(sweep(options.seed)),
+        false => {
+            Box::new((options.from..options.from + options.cases).map(|index| generate::case(options.seed, index)))
+        }
+    };
+    for (k, case) in cases.enumerate() {
+        if options.trace {
+            eprintln!("case {}", options.from + k as u64);
+        }
+        if let Some(what) = side.difference(&case) {
+            report(&side, options.from + k as u64, case, &what);
+            return ExitCode::FAILURE;
+        }
+        *answers.entry(oracle::check(&case.plan)[0]).or_insert(0) += 1;
+        compared += 1;
+    }
+    let answers: Vec<String> = answers.iter().map(|(number, count)| format!("{number}: {count}")).collect();
+    println!(
+        "{compared} cases alike in {:.1} s; answers of check by number: {}",
+        started.elapsed().as_secs_f64(),
+        answers.join(", ")
+    );
+    ExitCode::SUCCESS
+}
+
+fn report(side: &Side, index: u64, case: Case, what: &str) {
+    println!("DIFFERENCE in case {index}: {what}\n{}", words::describe(&case));
+    // The plan's own answer is kept, so that a refused plan shrinks to a refused one.
+    let number = oracle::check(&case.plan)[0];
+    let small = shrink(case, |case| oracle::check(&case.plan)[0] == number && side.difference(case).is_some());
+    let what = side.difference(&small).unwrap();
+    println!("SHRUNK: {what}\n{}", words::describe(&small));
+    let input = program::input(small.engine.min(255) as u8, small.allowance, &small.plan);
+    println!("the program's input, [n] being n zero bytes:\n{}", words::hex(&input));
+}
+
+/// Inputs that end within the first five bytes, and right after them.
+fn short_inputs(path: &PathBuf) -> Option<String> {
+    let byte = [0, 1, 2, 255];
+    let mut inputs: Vec<Vec<u8>> = vec![Vec::new(), vec![0, 255, 255, 255]];
+    for len in 1..=6 {
+        for value in byte {
+            inputs.push(vec![value; len]);
+            inputs.push([&vec![0; len - 1][..], &[value]].concat());
+        }
+    }
+    inputs
+        .iter()
+        .find_map(|input| difference_on_input(path, input).map(|what| format!("on the input {input:02x?}: {what}")))
+}
+
+/// A small plan damaged at each byte, with and without a new check.
+fn sweep(seed: u64) -> impl Iterator<Item = Case> {
+    let mut draw = Draw::new(seed, u64::MAX);
+    let mut plain = generate::shaped("connectors", &mut draw);
+    while plain.plan.len() > 8 * blocks::BLOCK || oracle::check(&plain.plan)[0] != 0 {
+        plain = generate::shaped("connectors", &mut draw);
+    }
+    plain.allowance = 400;
+    plain.book = oracle::book::LEAST_BOOK;
+    let count = plain.plan.len() * 8;
+    (0..count).map(move |k| {
+        let (at, way) = (k / 8, k % 8);
+        let mut case = plain.clone();
+        case.shape = "damaged at every byte";
+        case.engine = (way % 2) as u32;
+        case.plan[at] = match way / 2 {
+            0 => case.plan[at] ^ 1,
+            1 => case.plan[at] ^ 0x80,
+            2 => case.plan[at].wrapping_add(1),
+            _ => draw.number() as u8,
+        };
+        let block = at / blocks::BLOCK;
+        if way != 7 {
+            blocks::seal(&mut case.plan[block * blocks::BLOCK..(block + 1) * blocks::BLOCK], block + 1);
+        }
+        case
+    })
+}

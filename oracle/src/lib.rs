@@ -1,0 +1,25 @@
+//! The Rust original behind document 01's calls, for comparison with the product.
+#![allow(clippy::duplicate_mod)]
+
+pub mod bay;
+pub mod accounts;
+pub mod blocks;
+pub mod book;
+pub mod draft;
+pub mod draw;
+pub mod generate;
+pub mod plan;
+pub mod program;
+pub mod shrink;
+pub mod sides;
+pub mod slipped;
+pub mod words;
+
+mod faithful;
+#[cfg(product)]
+mod product;
+
+pub use faithful::calls::{check, run};
+
+/// Number, place, place, used, ended, yet to arrive, queued, open, charged, reneged, balked.
+pub type Numbers = [u64; 11];

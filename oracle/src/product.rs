@@ -1,0 +1,42 @@
+//! The product's exported calls. Nothing compares these declarations with the Rattle source: keep them in step.
+use crate::Numbers;
+
+unsafe extern "C" {
+    fn site_check(plan: *const u8, plan_len: usize, numbers: *mut [u64; 11]);
+    fn site_run(
+        plan: *const u8,
+        plan_len: usize,
+        engine: u32,
+        allowance: u32,
+        book: *mut u8,
+        book_len: usize,
+        numbers: *mut [u64; 11],
+    );
+}
+
+/// What stands in the answer before a call; each number must be written over.
+const UNWRITTEN: u64 = 0xa5a5_a5a5_a5a5_a5a5;
+
+pub fn check(plan: &[u8]) -> Numbers {
+    let mut out = [UNWRITTEN; 11];
+    // SAFETY: each pointer comes with the length of the memory it points to; there are always eleven numbers.
+    unsafe { site_check(plan.as_ptr(), plan.len(), &mut out) };
+    out
+}
+
+pub fn run(plan: &[u8], engine: u32, allowance: u32, book: &mut [u8]) -> Numbers {
+    let mut out = [UNWRITTEN; 11];
+    // SAFETY: each pointer comes with the length of the memory it points to; there are always eleven numbers.
+    unsafe {
+        site_run(
+            plan.as_ptr(),
+            plan.len(),
+            engine,
+            allowance,
+            book.as_mut_ptr(),
+            book.len(),
+            &mut out,
+        );
+    }
+    out
+}
