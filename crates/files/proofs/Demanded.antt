@@ -16,7 +16,7 @@ use Rattle.files.specs.Call.{stopOf, totals, orElse, answerOf}
 use Rattle.files.specs.Demand.{OfRun, UnitsUsed, NoFreeFits, OneSpot, AddUp, ClosedStay, ExactWaits, EventsEnd}
 use Rattle.files.specs.declared.plan.Answer.{Answer}
 use Rattle.files.specs.declared.plan.Answer.the-variants.{Fine, Refused, CannotCharge}
-use Rattle.files.specs.declared.totals.Totals.{Totals}
+use Rattle.files.specs.declared.call.Totals.{Totals}
 use Rattle.files.specs.declared.call.RunAnswer.{RunAnswer}
 use Rattle.files.specs.declared.call.RunAnswer.the-variants.{EngineAbove, AllowanceAbove, BookUnder, Stopped}
 use Rattle.files.proofs.SearchLaws.{length-each}

@@ -45,7 +45,7 @@ use Rattle.files.proofs.Accepted.{in-time, profiles-named}
 use Rattle.files.proofs.Within.{points-within}
 use Rattle.files.proofs.PairLaws.{site-read}
 use Rattle.files.specs.declared.call.Ran.{Ran}
-use Rattle.files.specs.declared.totals.Totals.{Totals}
+use Rattle.files.specs.declared.call.Totals.{Totals}
 
 -- the queue's head has reached its tail just where no event is pending
 none-pending : (q : EventQueue) → length (q .all) ≡ 192 → q .tail ≤ 192 → leb (q .tail) (q .head) ≡ isEmpty (pending q)

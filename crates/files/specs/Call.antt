@@ -19,7 +19,7 @@ use Rattle.files.specs.Book.{bookBytes, written}
 use Rattle.files.specs.declared.plan.Answer.{Answer}
 use Rattle.files.specs.declared.plan.Answer.the-variants.{Fine, Refused, CannotCharge}
 use Rattle.files.specs.Totals.{counted}
-use Rattle.files.specs.declared.totals.Totals.{Totals}
+use Rattle.files.specs.declared.call.Totals.{Totals}
 use Rattle.files.specs.declared.call.Ran.{Ran}
 use Rattle.files.specs.declared.call.RunAnswer.{RunAnswer}
 use Rattle.files.specs.declared.call.RunAnswer.the-variants.{EngineAbove, AllowanceAbove, BookUnder, PlanRefused, Stopped}

@@ -10,7 +10,7 @@ use Rattle.engine.specs.Demand.{Stop, spots, Waited, Kept}
 use Rattle.files.specs.Fields.{chargerCount, vehicleCount}
 use Rattle.files.specs.Read.{readPlan}
 use Rattle.files.specs.Call.{stopOf}
-use Rattle.files.specs.declared.totals.Totals.{Totals}
+use Rattle.files.specs.declared.call.Totals.{Totals}
 use Rattle.files.specs.declared.call.RunAnswer.{RunAnswer}
 use Rattle.files.specs.declared.call.RunAnswer.the-variants.{EngineAbove, AllowanceAbove, BookUnder, PlanRefused, Stopped}
 

@@ -6,7 +6,7 @@ use lib.ListN.{length}
 use Rattle.engine.specs.declared.events.Event.{Event}
 use Rattle.engine.specs.declared.session.Session.{Session}
 use Rattle.engine.specs.Demand.{yetToArrive, sessionsOf}
-use Rattle.files.specs.declared.totals.Totals.{Totals}
+use Rattle.files.specs.declared.call.Totals.{Totals}
 
 -- yet to arrive and queued count vehicles; open, charged, reneged and balked count the sessions of outcome 0, 1, 2 and 3
 abbrev pub counted : ℕ → Bool → List Event → List ℕ → List Session → Totals

@@ -8,7 +8,6 @@ use crate::plan::check_blocks;
 use crate::read::read_connectors;
 use crate::read::read_curves;
 use crate::read::read_site;
-use crate::totals::Totals;
 use crate::totals::count_up;
 use engine::discrete;
 use engine::session::Sessions;
@@ -27,6 +26,18 @@ ghost use Rattle.files.specs.Read.{Loaded, readPlan};
 ghost use Rattle.files.specs.Call.{Runnable, Shows, Admitted, stopOf, totals, orElse, bookOf, answerOf, bookAfter};
 ghost use Rattle.files.specs.Book.{written};
 ghost use Rattle.files.specs.Demand.{UnitsUsed, NoFreeFits, OneSpot, AddUp, ClosedStay, ExactWaits, EventsEnd};
+
+// Units used, ended, and how many vehicles are yet to arrive and queued; how many sessions are open, charged, reneged, balked.
+pub struct Totals {
+    pub used: u64,
+    pub ended: bool,
+    pub yet_to_arrive: u64,
+    pub queued: u64,
+    pub still_open: u64,
+    pub charged: u64,
+    pub reneged: u64,
+    pub balked: u64,
+}
 
 pub enum RunAnswer {
     EngineAbove,

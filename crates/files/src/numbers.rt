@@ -1,5 +1,6 @@
 // The eleven result numbers of a call: number, places, units used, ended, and the six counts. Exported for C and Rust.
 use crate::call::RunAnswer;
+use crate::call::Totals;
 use crate::call::check;
 use crate::call::flag;
 use crate::call::run;
@@ -7,7 +8,6 @@ use crate::check::number;
 use crate::check::other_place;
 use crate::check::place;
 use crate::plan::Answer;
-use crate::totals::Totals;
 ghost use mathlib.Core.Path.{_≡_};
 ghost use lib.ListN.{length};
 ghost use Rattle.files.specs.Call.{refused as Call·refused, checkNumbers, numbers as Call·numbers, answerOf, bookAfter};

@@ -10,13 +10,15 @@ use crate::fields::letters_ok;
 use crate::fields::point_count;
 use crate::fields::profile_ok;
 use crate::fields::vehicle_ok;
+use crate::ids::id_at;
+use crate::ids::with_id;
 ghost use mathlib.Core.Path.{_≡_};
 ghost use mathlib.Core.Bool.{not};
 ghost use Prim.Native.Nat.{_+_, _*_, _≤_, _<_};
 ghost use lib.ListN.{length, getD};
 ghost use Rattle.files.specs.Blocks.{passes, block as Blocks·block};
 ghost use Rattle.files.specs.Search.{first, every, holds};
-ghost use Rattle.files.specs.Plan.{kindAt, startOf, isProfile, isVehicle, idAt, withId, countTests, fieldTests, newSoc, broken as Plan·broken, rules, refusal as Plan·refusal, checkBlocks};
+ghost use Rattle.files.specs.Plan.{kindAt, startOf, isProfile, isVehicle, countTests, fieldTests, newSoc, broken as Plan·broken, rules, refusal as Plan·refusal, checkBlocks};
 
 // 113 blocks: a header, 16 profiles, 32 chargers and 64 vehicles.
 const LONGEST: usize = 57_856;
@@ -102,29 +104,6 @@ fn start_of(plan: &[u8], kind: Kind) -> usize
         Kind::Charger => 1 + p,
         Kind::Vehicle => 1 + p + c,
     }
-}
-
-// The id of the block at the index k.
-pub fn id_at(plan: &[u8], k: usize) -> u32
-    requires { ⌜ 512 * k + 512 ≤ length (now plan) ⌝ }
-    ensures { λ r. ⌜ r ≡ idAt (now (plan .entry)) k ⌝ }
-{
-    u32_at(plan, 512 * k)
-}
-
-// The index of the first block from `from` up to, not including, `to` that has the id; `to` where none has it.
-pub fn with_id(plan: &[u8], from: usize, to: usize, id: u32) -> usize
-    requires { ⌜ 512 * to ≤ length (now plan) ⌝ }
-    ensures { λ r. ⌜ r ≡ withId (now (plan .entry)) from to id ⌝ }
-{
-    let mut j = from;
-    while j < to {
-        if id_at(plan, j) == id {
-            return j;
-        }
-        j += 1;
-    }
-    j
 }
 
 // 5: the block at the index k has not the check of its place.

@@ -6,7 +6,7 @@ use crate::bytes::u32_at;
 use crate::bytes::u64_at;
 use crate::fields::f64_at;
 use crate::fields::point_count;
-use crate::plan::with_id;
+use crate::ids::with_id;
 use charger::charger::Charger;
 use charger::connector::connector_row;
 use charger::connector::connectors_of;

@@ -1,5 +1,6 @@
 // The counts of a run at its stop.
 use crate::book_session::outcome_number;
+use crate::call::Totals;
 use engine::events::EventQueue;
 use engine::events::EventType;
 use engine::session::Sessions;
@@ -13,18 +14,6 @@ ghost use Rattle.charger.specs.Queue.{waiting};
 ghost use Rattle.engine.specs.Code.{pending, booked, Sound};
 ghost use Rattle.engine.specs.Demand.{isArrival, yetToArrive, sessionsOf};
 ghost use Rattle.files.specs.Totals.{counted};
-
-// Units used, ended, and how many vehicles are yet to arrive and queued; how many sessions are open, charged, reneged, balked.
-pub struct Totals {
-    pub used: u64,
-    pub ended: bool,
-    pub yet_to_arrive: u64,
-    pub queued: u64,
-    pub still_open: u64,
-    pub charged: u64,
-    pub reneged: u64,
-    pub balked: u64,
-}
 
 fn arrival_tick(kind: EventType) -> u64
     ensures { λ r. ⌜ r ≡ tick (isArrival kind) ⌝ }
