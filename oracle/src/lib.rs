@@ -1,8 +1,8 @@
 //! The Rust original behind document 01's calls, for comparison with the product.
 #![allow(clippy::duplicate_mod)]
 
-pub mod bay;
 pub mod accounts;
+pub mod bay;
 pub mod blocks;
 pub mod book;
 pub mod draft;

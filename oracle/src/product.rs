@@ -28,15 +28,7 @@ pub fn run(plan: &[u8], engine: u32, allowance: u32, book: &mut [u8]) -> Numbers
     let mut out = [UNWRITTEN; 11];
     // SAFETY: each pointer comes with the length of the memory it points to; there are always eleven numbers.
     unsafe {
-        site_run(
-            plan.as_ptr(),
-            plan.len(),
-            engine,
-            allowance,
-            book.as_mut_ptr(),
-            book.len(),
-            &mut out,
-        );
+        site_run(plan.as_ptr(), plan.len(), engine, allowance, book.as_mut_ptr(), book.len(), &mut out);
     }
     out
 }

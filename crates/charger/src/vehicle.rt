@@ -3,7 +3,7 @@ use crate::connector::Resolved;
 use crate::connector::resolve_connector;
 use curve::units::Seconds;
 ghost use mathlib.Core.Path.{_≡_};
-ghost use Rattle.charger.specs.Vehicle.{connectorOf, compatible};
+ghost use Rattle.charger.specs.Vehicle.{noVehicle, connectorOf, compatible};
 
 // `profile` is its charge profile's place in the plan. Its connectors, in its order of preference, are the first `count` codes.
 pub struct Vehicle {
@@ -16,6 +16,23 @@ pub struct Vehicle {
     pub arrival: u64,
     pub wait: u64,
     pub limit: usize,
+}
+
+// One that fits no charger.
+pub fn no_vehicle() -> Vehicle
+    ensures { λ r. ⌜ r ≡ noVehicle ⌝ }
+{
+    Vehicle {
+        profile: 0,
+        codes: [0; 5],
+        count: 0,
+        start: 0.0,
+        target: 0.0,
+        idle: Seconds(0.0),
+        arrival: 0,
+        wait: 0,
+        limit: 0,
+    }
 }
 
 // The connector that the pair uses: the first of the vehicle's that the charger has.

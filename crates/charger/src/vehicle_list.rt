@@ -1,6 +1,6 @@
 // The plan's vehicles (vehicle_list.rs).
 use crate::vehicle::Vehicle;
-use curve::units::Seconds;
+use crate::vehicle::no_vehicle;
 ghost use mathlib.Core.Path.{_≡_};
 ghost use Rattle.charger.specs.Vehicle.{vehicleAt, listed};
 
@@ -22,16 +22,6 @@ impl VehicleList {
                 return all[v];
             }
         }
-        Vehicle {
-            profile: 0,
-            codes: [0; 5],
-            count: 0,
-            start: 0.0,
-            target: 0.0,
-            idle: Seconds(0.0),
-            arrival: 0,
-            wait: 0,
-            limit: 0,
-        }
+        no_vehicle()
     }
 }

@@ -37,6 +37,11 @@ unfoldable pub reached : Float → List Point → ℕ
 reached s [] = 0
 reached s (p ∷ ps) = cond (lt s (p .soc)) 0 (suc (reached s ps))
 
+-- how many points, from the first, have a SOC at or below s, by the test of `through` for a segment's end
+unfoldable pub passed : Float → List Point → ℕ
+passed s [] = 0
+passed s (p ∷ ps) = cond (le (p .soc) s) (suc (passed s ps)) 0
+
 -- the power at SOC s where that many are: below the first point its power, at or past the last its power
 unfoldable pub powerAfter : List Point → Float → ℕ → Kw
 unfolding ratio

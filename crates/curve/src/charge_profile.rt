@@ -162,15 +162,23 @@ pub fn place_near(curve: &[[f64; 2]], near: usize, soc: f64) -> Place
     }
 }
 
-// The place of `soc`.
-fn locate(curve: &[[f64; 2]], soc: f64) -> Place
+// The place of `soc`, where the first i points are at or below it.
+fn locate_from(curve: &[[f64; 2]], i: usize, soc: f64) -> Place
+    requires { ⌜ i ≤ Curve.reached soc (Curve.points (now curve)) ⌝ }
     ensures { λ r. ⌜ r ≡ Curve.place (Curve.points (now (curve .entry))) soc ⌝ }
 {
-    let segment = segment(curve, soc);
+    let segment = segment_from(curve, i, soc);
     Place {
         segment,
         power: power_after(curve, segment, soc),
     }
+}
+
+// The place of `soc`.
+fn locate(curve: &[[f64; 2]], soc: f64) -> Place
+    ensures { λ r. ⌜ r ≡ Curve.place (Curve.points (now (curve .entry))) soc ⌝ }
+{
+    locate_from(curve, 0, soc)
 }
 
 // The place of `to` from that of `from`. Upward the search goes on where the last one ended.
@@ -179,11 +187,7 @@ fn onward(curve: &[[f64; 2]], from: f64, place: Place, to: f64) -> Place
     ensures { λ r. ⌜ r ≡ Curve.place (Curve.points (now (curve .entry))) to ⌝ }
 {
     if from <= to {
-        let segment = segment_from(curve, place.segment, to);
-        return Place {
-            segment,
-            power: power_after(curve, segment, to),
-        };
+        return locate_from(curve, place.segment, to);
     }
     locate(curve, to)
 }
@@ -249,6 +253,21 @@ fn through(
     part(curve, battery, target, cap, p, q, w)
 }
 
+// How many points, from the first, have a SOC at or below `soc`, by the test that a segment is skipped for.
+fn passed(curve: &[[f64; 2]], soc: f64) -> usize
+    ensures bounded { λ r. ⌜ r ≤ length (now (curve .entry)) ⌝ }
+    ensures found { λ r. ⌜ r ≡ Curve.passed soc (Curve.points (now (curve .entry))) ⌝ }
+{
+    let mut i = 0;
+    while i < curve.len() {
+        if !(curve[i][0] <= soc) {
+            return i;
+        }
+        i += 1;
+    }
+    i
+}
+
 // What charging from one SOC to another takes, with the power capped throughout.
 pub fn integrate_over(
     curve: &[[f64; 2]],
@@ -267,15 +286,16 @@ pub fn integrate_over(
     if curve.len() == 0 {
         return none;
     }
+    let skipped = passed(curve, start);
     let mut w = Walk {
         charge: Charge {
             soc: start,
             output: none,
         },
-        place: locate(curve, start),
+        place: locate_from(curve, skipped, start),
     };
-    let mut p = point_at(curve, 0);
-    let mut i = 1;
+    let mut i = if skipped == 0 { 1 } else { skipped };
+    let mut p = point_at(curve, i - 1);
     while i < curve.len() {
         if target <= w.charge.soc {
             return w.charge.output;

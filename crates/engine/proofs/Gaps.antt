@@ -21,7 +21,7 @@ use Rattle.engine.specs.Timestep.{allFree}
 use Rattle.engine.specs.Bank.{stateAt, bank, vacantAt, Stored, Gaps, Cars, Gathered, advanced}
 use Rattle.engine.proofs.Rounds.{free-stays, free-unfinished, and-left, and-right, free-charge}
 use Rattle.engine.proofs.Held.{alike-active, alike-request, alike-capped, alike-progress, map-free}
-use Rattle.engine.proofs.Passes.{Passed, passed-none, passed-more, passed-all, total-snoc, any-snoc, length-bank}
+use Rattle.engine.proofs.Passes.{Passed, passed-none, passed-more, passed-all, total-append, any-append, length-bank}
 use Rattle.engine.proofs.PassTurns.{untouched}
 
 -- ---- gathering
@@ -124,10 +124,10 @@ still-advanced factor s h = rw h (free-stays (s .status) s h)
 
 pub sum-same : (z sum : Float) (ss : List ChargerState) (s : ChargerState) → isFree (s .status) ≡ true → sum ≡ total z ss → sum ≡ total z (ss ++ (s ∷ []))
 unfolding added
-sum-same z sum ss s h e = e ∙ rw (total-snoc z ss s, h)
+sum-same z sum ss s h e = e ∙ rw (total-append z ss (s ∷ []), h)
 
 pub any-same : (any : Bool) (ss : List ChargerState) (s : ChargerState) → isFree (s .status) ≡ true → any ≡ anyFinished false ss → any ≡ anyFinished false (ss ++ (s ∷ []))
-any-same any ss s h e = e ∙ rw (any-snoc false ss s, free-unfinished (s .status) h)
+any-same any ss s h e = e ∙ rw (any-append false ss (s ∷ []), free-unfinished (s .status) h)
 
 -- ---- the cars stay where they are
 
@@ -144,7 +144,7 @@ gaps-same free free′ n i [] e g = λ j h l. e j l ∙ g j h l
 gaps-same free free′ n i (p ∷ ps) e g = (g .0, g .1, λ j h l. e j (omega arith) ∙ g .2 j h l, gaps-same free free′ n (p + 1) ps e (g .3))
 
 -- any plan with that limit and those curves
-abbrev with-curves : Limit → (ℕ → List Point) → Plan
+abbrev pub with-curves : Limit → (ℕ → List Point) → Plan
 with-curves limit curve = record { limit = limit; curve = curve; battery = λ k. record { 0 = nan }; chargers = []; connectors = []; vehicles = [] }
 
 module _ {n : ℕ} {ps : List ℕ} {F F′ : List Float} {B B′ : List ℕ} where
@@ -191,21 +191,21 @@ all-free-snoc (x ∷ ss) s = go (isFree (x .status)) (all-free-snoc ss s)
     go true e = e
     go false e = refl
 
-vacant-all : (n : ℕ) (F : List Float) (B : List ℕ) → ((j : ℕ) → j < n → vacantAt F B j ≡ true) → allFree (bank n F B) ≡ true
+pub vacant-all : (n : ℕ) (F : List Float) (B : List ℕ) → ((j : ℕ) → j < n → vacantAt F B j ≡ true) → allFree (bank n F B) ≡ true
 vacant-all zero F B h = refl
 vacant-all (suc n) F B h = rw (all-free-snoc (bank n F B) (stateAt F B n), vacant-all n F B (λ j l. h j (omega arith)), h n (omega arith))
 
-none-finished : (ss : List ChargerState) → allFree ss ≡ true → anyFinished false ss ≡ false
-none-finished [] h = refl
-none-finished (s ∷ ss) h =
-    rw (free-unfinished (s .status) (and-left (isFree (s .status)) (allFree ss) h)) (none-finished ss (and-right (isFree (s .status)) (allFree ss) h))
+pub any-free : (b : Bool) (ss : List ChargerState) → allFree ss ≡ true → anyFinished b ss ≡ b
+any-free b [] h = refl
+any-free b (s ∷ ss) h =
+    rw (free-unfinished (s .status) (and-left (isFree (s .status)) (allFree ss) h)) (any-free b ss (and-right (isFree (s .status)) (allFree ss) h))
 
-spin-free : (limit : Limit) (curve : ℕ → List Point) (done k : ℕ) (ss : List ChargerState) → allFree ss ≡ true
+pub spin-free : (limit : Limit) (curve : ℕ → List Point) (done k : ℕ) (ss : List ChargerState) → allFree ss ≡ true
     → spin limit curve done k ss ≡ record { states = ss; rounds = done + k; any = false }
 spin-free limit curve done zero ss h = rw add-zero
 spin-free limit curve done (suc k) ss h =
     let e : done + suc k ≡ done + 1 + k = omega arith in
-    rw (free-charge (with-curves limit curve) ss h, none-finished ss h, e) (spin-free limit curve (done + 1) k ss h)
+    rw (free-charge (with-curves limit curve) ss h, any-free false ss h, e) (spin-free limit curve (done + 1) k ss h)
 
 -- with no car the rounds pass at once
 pub spin-none : (limit : Limit) (curve : ℕ → List Point) (k : ℕ) {n count : ℕ} {places : List ℕ} {F : List Float} {B : List ℕ} → Gathered F B n places count → count ≡ 0

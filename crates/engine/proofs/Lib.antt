@@ -14,6 +14,7 @@ pub mod Waits
 pub mod Demanded
 pub mod Push
 pub mod Places
+pub mod Rows
 pub mod Generated
 pub mod At
 pub mod Simulations
@@ -25,6 +26,7 @@ pub mod Sets
 pub mod Stores
 pub mod Passes
 pub mod Gaps
+pub mod OneCar
 pub mod Closings
 pub mod Releases
 pub mod Ends

@@ -18,7 +18,7 @@ use Rattle.engine.specs.declared.events.Event.{Event}
 use Rattle.engine.specs.declared.events.EventType.{EventType}
 use Rattle.engine.specs.declared.events.EventType.the-variants.{Arrival, Renege, Unplug}
 use Rattle.engine.specs.Plan.{Plan}
-use Rattle.engine.specs.Events.{arrival, renege, unplug, before, push, generate}
+use Rattle.engine.specs.Events.{arrival, renege, unplug, before, push, Sorted, empty, least, generate}
 use Rattle.engine.specs.SiteState.{startCharging}
 use Rattle.engine.specs.Discrete.{State, start, step, after, run}
 use Rattle.engine.specs.Demand.{isArrival, arrives}
@@ -47,15 +47,11 @@ not-earlier x e h = ltb-false (x .time) (e .time) h
 
 -- ---- pending events stand in order
 
-pub data Sorted : List Event → Type 0 where
-  empty : Sorted []
-  least : {e : Event} {l : List Event} → All (λ x. before x e ≡ false) l → Sorted l → Sorted (e ∷ l)
-
 -- what is before x is before all that stand behind x
 before-all : (e x : Event) {l : List Event} → before e x ≡ true → All (λ y. before y x ≡ false) l → All (λ y. before e y ≡ true) l
 before-all e x h k = all-map (λ y b. before-trans e x y h b) k
 
-sorted-push : (e : Event) {l : List Event} → Sorted l → Sorted (push e l)
+pub sorted-push : (e : Event) {l : List Event} → Sorted l → Sorted (push e l)
 sorted-push e empty = least none empty
 sorted-push e (least {e = x} {l = l} h s) =
     by-test Sorted (before e x)

@@ -45,13 +45,13 @@ module _ (f : ChargerState → ChargerState) (F : List Float) (B : List ℕ) whe
       go zero h = refl
       go (suc m) h = rw (map-append, go m (omega arith), p .done m (omega arith))
 
-pub total-snoc : (sum : Float) (ss : List ChargerState) (s : ChargerState) → total sum (ss ++ (s ∷ [])) ≡ added (total sum ss) s
-total-snoc sum [] s = refl
-total-snoc sum (x ∷ ss) s = total-snoc (added sum x) ss s
+pub total-append : (sum : Float) (ss xs : List ChargerState) → total sum (ss ++ xs) ≡ total (total sum ss) xs
+total-append sum [] xs = refl
+total-append sum (s ∷ ss) xs = total-append (added sum s) ss xs
 
-pub any-snoc : (b : Bool) (ss : List ChargerState) (s : ChargerState) → anyFinished b (ss ++ (s ∷ [])) ≡ orFinished (anyFinished b ss) s
-any-snoc b [] s = refl
-any-snoc b (x ∷ ss) s = any-snoc (orFinished b x) ss s
+pub any-append : (b : Bool) (ss xs : List ChargerState) → anyFinished b (ss ++ xs) ≡ anyFinished (anyFinished b ss) xs
+any-append b [] xs = refl
+any-append b (s ∷ ss) xs = any-append (orFinished b s) ss xs
 
 bank-kept : {i : ℕ} {s : ChargerState} {F F′ : List Float} {B B′ : List ℕ} → Stored i s F B F′ B′ → (m : ℕ) → m ≤ i → bank m F′ B′ ≡ bank m F B
 bank-kept w zero h = refl
@@ -63,11 +63,11 @@ bank-more {i} w = rw (add-one, bank-kept w i (omega arith), w .same)
 -- the sum over the states that were passed
 pub sum-more : (curve : ℕ → List Point) (z : Float) {i : ℕ} {sum r : Float} {F F′ : List Float} {B B′ : List ℕ}
     → Requested curve i sum F B F′ B′ r → sum ≡ total z (bank i F B) → r ≡ total z (bank (i + 1) F′ B′)
-sum-more curve z {i} {F = F} {B = B} w e = rw (bank-more (w .state), total-snoc z (bank i F B), ← e) (w .sum-now)
+sum-more curve z {i} {F = F} {B = B} w e = rw (bank-more (w .state), total-append z (bank i F B), ← e) (w .sum-now)
 
 pub any-more : (factor : Float) {i : ℕ} {any r : Bool} {F F′ : List Float} {B B′ : List ℕ}
     → Advanced factor i any F B F′ B′ r → any ≡ anyFinished false (bank i F B) → r ≡ anyFinished false (bank (i + 1) F′ B′)
-any-more factor {i} {F = F} {B = B} w e = rw (bank-more (w .state), any-snoc false (bank i F B), ← e) (w .any-now)
+any-more factor {i} {F = F} {B = B} w e = rw (bank-more (w .state), any-append false (bank i F B), ← e) (w .any-now)
 
 -- both passes are a round of power and progress
 pub both : (limit : Limit) (curve : ℕ → List Point) (ss : List ChargerState) {asked after : List ChargerState} {sum factor : Float}

@@ -39,6 +39,12 @@ pub and-right : (a b : Bool) → (a && b) ≡ true → b ≡ true
 and-right true b h = h
 and-right false b h = cc
 
+pub free-map : (change : ChargerState → ChargerState) → ((s : ChargerState) → isFree (s .status) ≡ true → change s ≡ s)
+    → (ss : List ChargerState) → allFree ss ≡ true → map change ss ≡ ss
+free-map change same [] h = refl
+free-map change same (s ∷ ss) h =
+    rw (same s (and-left (isFree (s .status)) (allFree ss) h), free-map change same ss (and-right (isFree (s .status)) (allFree ss) h))
+
 module _ (t : Plan) where
   -- ---- all of the allowance is used, unless the run has ended
 
@@ -58,12 +64,6 @@ module _ (t : Plan) where
   used n = used-after n n (start t) (zero-add n)
 
   -- ---- while all chargers are free and no event is due, a round changes the time alone
-
-  free-map : (change : ChargerState → ChargerState) → ((s : ChargerState) → isFree (s .status) ≡ true → change s ≡ s)
-      → (ss : List ChargerState) → allFree ss ≡ true → map change ss ≡ ss
-  free-map change same [] h = refl
-  free-map change same (s ∷ ss) h =
-      rw (same s (and-left (isFree (s .status)) (allFree ss) h), free-map change same ss (and-right (isFree (s .status)) (allFree ss) h))
 
   free-active : (change : ChargerState → ChargerState) (ss : List ChargerState) → allFree ss ≡ true → map (active change) ss ≡ ss
   free-active change ss h = free-map (active change) (λ s e. rw e) ss h

@@ -21,7 +21,7 @@ use Rattle.engine.specs.declared.session.Session.{Session}
 use Rattle.engine.specs.declared.session.Outcome.{Outcome}
 use Rattle.engine.specs.declared.session.Outcome.the-variants.{Open}
 use Rattle.engine.specs.Plan.{Plan, vehicle, fits, stay}
-use Rattle.engine.specs.Events.{arrival, unplug, push, generate}
+use Rattle.engine.specs.Events.{arrival, unplug, push, Sorted, least, generate}
 use Rattle.engine.specs.declared.charger_state.ChargerState.{ChargerState}
 use Rattle.engine.specs.ChargerState.{isFinished}
 use Rattle.engine.specs.SiteState.{SiteState, below, startCharging, uncharged, balks as balksAt, withPending, turnedAway, available, arrived, reneged, passedOn, release, handle, popped}
@@ -33,7 +33,7 @@ use Rattle.engine.proofs.Stepped.{Stepped, stepped, ended, charges, bal
 use Rattle.engine.proofs.EventLaws.{all-push, run-step}
 use Rattle.engine.proofs.Held.{missing, Holds, HeldBut, HeldFrom, close, held-tail, held-close, finished-busy, from-start, held-charged, nothing-held}
 use Rattle.engine.proofs.Run.{pending-popped, due-reached, round-reached}
-use Rattle.engine.proofs.Order.{Sorted, least, sorted, not-earlier}
+use Rattle.engine.proofs.Order.{sorted, not-earlier}
 
 -- ---- the times of events are the plan's; `Other` is what is known of an unplug
 

@@ -19,6 +19,12 @@ isFinished Charging = false
 isFinished Idle = false
 isFinished Finished = true
 
+abbrev pub isCharging : Status → Bool
+isCharging Free = false
+isCharging Charging = true
+isCharging Idle = false
+isCharging Finished = false
+
 -- no car
 unfoldable pub empty : ChargerState
 unfolding ratio
@@ -64,10 +70,8 @@ withRequest r s =
       peak = s .peak;
     }
 
--- the power cap, scaled by `factor` if that is below 1
-unfoldable pub capped : Float → ChargerState → ChargerState
-unfolding ratio
-capped factor s =
+abbrev pub withCap : Kw → ChargerState → ChargerState
+withCap c s =
     record {
       status = s .status;
       profile = s .profile;
@@ -77,11 +81,16 @@ capped factor s =
       battery = s .battery;
       rated = s .rated;
       requested = s .requested;
-      cap = cond (lt factor (ratio 1 1)) (record { 0 = draw s ⊗ factor }) (s .rated);
+      cap = c;
       idle = s .idle;
       energy = s .energy;
       peak = s .peak;
     }
+
+-- the power cap, scaled by `factor` if that is below 1
+unfoldable pub capped : Float → ChargerState → ChargerState
+unfolding ratio
+capped factor s = withCap (cond (lt factor (ratio 1 1)) (record { 0 = draw s ⊗ factor }) (s .rated)) s
 
 abbrev pub chargingUntil : Float → Float → Status
 chargingUntil target soc = cond (le target soc) Idle Charging
@@ -89,11 +98,9 @@ chargingUntil target soc = cond (le target soc) Idle Charging
 abbrev pub idleUntil : Float → Status
 idleUntil left = cond (le left (ratio 0 1)) Finished Idle
 
--- a round of charging: idle once the target is reached
-unfoldable pub charged : ChargerState → ChargerState
-unfolding ratio
-charged s =
-    let power = least (s .requested .0) (s .cap .0) in
+-- a round of charging by a power: idle once the target is reached
+abbrev pub delivered : Float → ChargerState → ChargerState
+delivered power s =
     let energy = power ⊗ hours in
     let soc = s .soc ⊕ energy ⊘ s .battery .0 in
     record {
@@ -110,6 +117,11 @@ charged s =
       energy = record { 0 = s .energy .0 ⊕ energy };
       peak = record { 0 = greatest (s .peak .0) power };
     }
+
+-- a round of charging
+unfoldable pub charged : ChargerState → ChargerState
+unfolding ratio
+charged s = delivered (least (s .requested .0) (s .cap .0)) s
 
 -- a round of standing idle: finished once no idle time is left
 unfoldable pub idled : ChargerState → ChargerState

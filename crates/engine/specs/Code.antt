@@ -1,7 +1,7 @@
 -- What the program's structs stand for.
 use mathlib.Core.Path.{_≡_}
-use mathlib.Core.Bool.{Bool, false, _&&_}
-use mathlib.Core.List.{List, [], _∷_, _++_}
+use mathlib.Core.Bool.{Bool, false, cond, _&&_}
+use mathlib.Core.List.{List, [], _∷_, _++_, map}
 use Prim.Native.Nat.{ℕ, _+_, _^_, _≤_, _<_}
 use lib.Dec.{leb, eqb}
 use lib.Ieee.{Float}
@@ -23,6 +23,7 @@ use Rattle.engine.specs.declared.discrete.State.{State}
 use Rattle.engine.specs.declared.events.Event.{Event}
 use Rattle.engine.specs.declared.events.EventQueue.{EventQueue}
 use Rattle.engine.specs.declared.events.EventType.{EventType}
+use Rattle.engine.specs.declared.events.EventType.the-variants.{Arrival, Renege}
 use Rattle.engine.specs.declared.session.Session.{Session}
 use Rattle.engine.specs.declared.session.Sessions.{Sessions}
 use Rattle.engine.specs.declared.site.Site.{Site}
@@ -41,6 +42,13 @@ pending q = part (q .head) (q .tail) (q .all)
 -- the queue once its first event is popped
 abbrev pub behindFirst : EventQueue → EventQueue
 behindFirst q = record { all = q .all; head = q .head + 1; tail = q .tail }
+
+-- the event of a row: its time, 0 for an arrival and 1 for a renege, and its vehicle
+abbrev pub eventOf : List ℕ → Event
+eventOf r = record { time = getD r 0 0; kind = cond (eqb (getD r 1 0) 0) Arrival Renege; vehicle = getD r 2 0; charger = 0 }
+
+abbrev pub eventsOf : List (List ℕ) → List Event
+eventsOf l = map eventOf l
 
 abbrev pub booked : Sessions → List Session
 booked s = take (s .len) (s .all)

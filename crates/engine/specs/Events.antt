@@ -1,8 +1,10 @@
 -- Events: the order in which they pop, and those of a plan. Pending events are a list in that order.
-use mathlib.Core.Bool.{Bool, cond}
+use mathlib.Core.Path.{_≡_}
+use mathlib.Core.Bool.{Bool, false, cond}
 use mathlib.Core.List.{List, [], _∷_}
 use Prim.Native.Nat.{ℕ, suc, _+_}
 use lib.Dec.{ltb}
+use Rattle.charger.specs.Lists.{All}
 use Rattle.charger.specs.declared.vehicle.Vehicle.{Vehicle}
 use Rattle.engine.specs.declared.events.Event.{Event}
 use Rattle.engine.specs.declared.events.EventType.the-variants.{Arrival, Renege, Unplug}
@@ -24,6 +26,11 @@ before e x = ltb (e .time) (x .time)
 abbrev pub push : Event → List Event → List Event
 push e [] = e ∷ []
 push e (x ∷ xs) = cond (before e x) (e ∷ (x ∷ xs)) (x ∷ push e xs)
+
+-- pending events stand in order: none pops before one that stands ahead of it
+pub data Sorted : List Event → Type 0 where
+  empty : Sorted []
+  least : {e : Event} {l : List Event} → All (λ x. before x e ≡ false) l → Sorted l → Sorted (e ∷ l)
 
 -- the arrival and the renege of each vehicle, pushed in plan order from the place v
 abbrev pub generate : ℕ → List Vehicle → List Event → List Event

@@ -5,6 +5,7 @@ pub mod SiteState
 pub mod Discrete
 pub mod ChargerState
 pub mod Power
+pub mod Alone
 pub mod Bank
 pub mod Timestep
 pub mod Demand

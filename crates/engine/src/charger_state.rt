@@ -56,6 +56,17 @@ pub fn is_finished(status: Status) -> bool
     }
 }
 
+pub fn is_charging(status: Status) -> bool
+    ensures { λ r. ⌜ r ≡ Spec.isCharging status ⌝ }
+{
+    match status {
+        Status::Free => false,
+        Status::Charging => true,
+        Status::Idle => false,
+        Status::Finished => false,
+    }
+}
+
 // Idle once the SOC has reached the target.
 fn charging_until(target: f64, soc: f64) -> Status
     ensures { λ r. ⌜ r ≡ Spec.chargingUntil target soc ⌝ }
@@ -94,31 +105,33 @@ impl ChargerState {
         s
     }
 
+    pub fn with_cap(self, cap: Kw) -> Self
+        ensures { λ r. ⌜ r ≡ Spec.withCap cap self ⌝ }
+    {
+        let mut s = self;
+        s.cap = cap;
+        s
+    }
+
     // The power cap, scaled by `factor` if that is below 1.
     pub fn capped(self, factor: f64) -> Self
         ensures { λ r. ⌜ r ≡ Spec.capped factor self ⌝ }
     {
-        let mut s = self;
         if factor < 1.0 {
-            let cap = Kw(self.draw() * factor);
-            s.cap = cap;
-            return s;
+            return self.with_cap(Kw(self.draw() * factor));
         }
-        let rated = self.rated;
-        s.cap = rated;
-        s
+        self.with_cap(self.rated)
     }
 
-    // A round of charging: idle once the target is reached.
-    fn charged(self) -> Self
-        ensures { λ r. ⌜ r ≡ Spec.charged self ⌝ }
+    // A round of charging by a power: idle once the target is reached.
+    pub fn delivered(self, power: f64) -> Self
+        ensures { λ r. ⌜ r ≡ Spec.delivered power self ⌝ }
     {
         let battery = self.battery;
         let rated = self.rated;
         let requested = self.requested;
         let cap = self.cap;
         let idle = self.idle;
-        let power = min(requested.0, cap.0);
         let energy = power * TIMESTEP_HRS;
         let soc = self.soc + energy / battery.0;
         ChargerState {
@@ -135,6 +148,13 @@ impl ChargerState {
             energy: Kwh(self.energy.0 + energy),
             peak: Kw(max(self.peak.0, power)),
         }
+    }
+
+    // A round of charging.
+    fn charged(self) -> Self
+        ensures { λ r. ⌜ r ≡ Spec.charged self ⌝ }
+    {
+        self.delivered(min(self.requested.0, self.cap.0))
     }
 
     // A round of standing idle: finished once no idle time is left.

@@ -9,11 +9,15 @@ use crate::session::minus;
 use crate::session::uncharged;
 use crate::site::Simulation;
 use crate::site::Site;
+use crate::site::charger_of;
 use crate::site::charging_output;
 use crate::site::free_charger;
 use crate::site::row_of;
+use charger::vehicle::Vehicle;
+use charger::vehicle::no_vehicle;
 use charger::vehicle_list::VehicleList;
 use charger::waiting_queue::WaitingQueue;
+use curve::charge_profile::ChargingOutput;
 use curve::float::ceil;
 use curve::units::Seconds;
 ghost use mathlib.Core.Path.{_≡_};
@@ -24,6 +28,7 @@ ghost use lib.ListN.{take, set};
 ghost use Rattle.curve.specs.F64.{ceiling};
 ghost use Rattle.charger.specs.Lists.{tick, All};
 ghost use Rattle.charger.specs.Vehicle.{listed};
+ghost use Rattle.engine.specs.Plan.{Plan, vehicle, output};
 ghost use Rattle.engine.specs.Discrete.{charged, run};
 ghost use Rattle.engine.specs.Demand.{isArrival};
 ghost use Rattle.engine.specs.Code.{planOf, stateOf, model, InTime, Sound, Effected};
@@ -79,6 +84,31 @@ fn free_of(busy: [bool; 32]) -> [bool; 32]
     free
 }
 
+// The session of a car that takes a charger, by what its charge takes.
+fn session_of(v: usize, c: usize, time: u64, car: Vehicle, charge: ChargingOutput) -> Session
+    requires { ⌜ time < 2 ^ 63 ⌝ }
+    ensures { λ r. ⌜ ((p : Plan) → car ≡ vehicle p v → charge ≡ output p v c → r ≡ charged p time v c) ⌝ }
+{
+    let duration = charge.duration;
+    let idle = car.idle;
+    let until = time + stay(duration, idle);
+    let wait = minus(time, car.arrival);
+    let peak = charge.peak;
+    let energy = charge.energy;
+    Session {
+        vehicle: v,
+        outcome: Outcome::Charged,
+        charger: c,
+        plugin: time,
+        unplug: until,
+        wait: wait,
+        duration: duration,
+        idle: idle,
+        peak: peak,
+        energy: energy,
+    }
+}
+
 // The session of the vehicle `v` that takes the charger `c`.
 fn charge(
     site: Site,
@@ -93,26 +123,18 @@ fn charge(
     ensures { λ r. ⌜ r ≡ charged (planOf site rows (now (curves .entry)) (now (lens .entry))) time v c ⌝ }
 {
     let vehicles = site.vehicles;
-    let vehicle = vehicles.get_vehicle(v);
-    let output = charging_output(site, rows, curves, lens, v, c);
-    let duration = output.duration;
-    let idle = vehicle.idle;
-    let until = time + stay(duration, idle);
-    let wait = minus(time, vehicle.arrival);
-    let peak = output.peak;
-    let energy = output.energy;
-    Session {
-        vehicle: v,
-        outcome: Outcome::Charged,
-        charger: c,
-        plugin: time,
-        unplug: until,
-        wait: wait,
-        duration: duration,
-        idle: idle,
-        peak: peak,
-        energy: energy,
+    let mut vehicle = no_vehicle();
+    if v < vehicles.len {
+        if v < 64 {
+            vehicle = vehicles.all[v];
+        }
     }
+    let chargers = site.chargers;
+    let batteries = site.batteries;
+    let charger = charger_of(chargers, site.count, c);
+    let row = row_of(rows, site.count, c);
+    let output = charging_output(vehicle, charger, row, batteries, curves, lens);
+    session_of(v, c, time, vehicle, output)
 }
 
 // An arrival takes the first free charger that fits, else balks if the queue has reached its limit, else waits.

@@ -1,15 +1,13 @@
 // Events and their order (events.rs).
-use charger::vehicle::Vehicle;
 use charger::vehicle_list::VehicleList;
 ghost use mathlib.Core.Path.{_≡_};
-ghost use mathlib.Core.List.{[], _∷_, _++_};
+ghost use mathlib.Core.List.{[], _∷_};
 ghost use Prim.Native.Nat.{_+_, _≤_, _<_};
-ghost use lib.ListN.{take};
+ghost use lib.ListN.{length, take};
 ghost use Rattle.charger.specs.Lists.{All};
-ghost use Rattle.charger.specs.Queue.{part, seek};
 ghost use Rattle.charger.specs.Vehicle.{listed};
-ghost use Rattle.engine.specs.Events.{before, push, arrival, renege, generate};
-ghost use Rattle.engine.specs.Code.{pending, behindFirst, InTime};
+ghost use Rattle.engine.specs.Events.{before, push, Sorted, generate};
+ghost use Rattle.engine.specs.Code.{pending, behindFirst, eventOf, eventsOf, InTime};
 
 pub enum EventType {
     Arrival,
@@ -73,27 +71,60 @@ impl EventQueue {
         q.tail = n + 1;
         q
     }
+}
 
-    // The two events of a vehicle, its arrival first.
-    fn arriving(self, x: Vehicle, v: usize) -> Self
-        requires { ⌜ ((self .head ≤ self .tail) × (self .tail + 1 < 192)) × InTime x ⌝ }
-        ensures { λ r. ⌜ (pending r ≡ push (renege (x .arrival + x .wait) v) (push (arrival (x .arrival) v) (pending self))) × (r .head ≡ self .head) × (r .tail ≡ self .tail + 2) ⌝ }
-    {
-        let at = x.arrival;
-        let until = at + x.wait;
-        self.pushed(Event {
-                time: at,
-                kind: EventType::Arrival,
-                vehicle: v,
-                charger: 0,
-            })
-            .pushed(Event {
-                time: until,
-                kind: EventType::Renege,
-                vehicle: v,
-                charger: 0,
-            })
+// Pending events as rows of numbers: the time, 0 for an arrival and 1 for a renege, and the vehicle.
+
+// Puts a row into the first n rows, behind those of its time and earlier.
+fn insert(rows: &mut [[u64; 3]], n: usize, row: [u64; 3])
+    requires { ⌜ (n < length (now rows)) × Sorted (eventsOf (take n (now rows))) ⌝ }
+    ensures { λ _. ⌜ eventsOf (take (n + 1) (now (rows .exit))) ≡ push (eventOf row) (eventsOf (take n (now (rows .entry)))) ⌝ }
+{
+    let mut j = n;
+    while 0 < j {
+        let other = rows[j - 1];
+        if other[0] <= row[0] {
+            break;
+        }
+        rows[j] = other;
+        j -= 1;
     }
+    rows[j] = row;
+}
+
+// The event of a row.
+fn event_of(row: [u64; 3]) -> Event
+    ensures { λ r. ⌜ r ≡ eventOf row ⌝ }
+{
+    let mut kind = EventType::Renege;
+    if row[1] == 0 {
+        kind = EventType::Arrival;
+    }
+    Event {
+        time: row[0],
+        kind,
+        vehicle: row[2] as usize,
+        charger: 0,
+    }
+}
+
+// The events of the first n rows.
+fn events_of(rows: &[[u64; 3]], n: usize) -> [Event; 192]
+    requires { ⌜ (n ≤ length (now rows)) × (n ≤ 192) ⌝ }
+    ensures { λ r. ⌜ take n r ≡ eventsOf (take n (now (rows .entry))) ⌝ }
+{
+    let mut all = [Event {
+        time: 0,
+        kind: EventType::Arrival,
+        vehicle: 0,
+        charger: 0,
+    }; 192];
+    let mut i = 0;
+    while i < n {
+        all[i] = event_of(rows[i]);
+        i += 1;
+    }
+    all
 }
 
 // The arrival and the renege of each vehicle, pushed in plan order.
@@ -101,22 +132,18 @@ pub fn generate_arrival_events(vehicles: VehicleList) -> EventQueue
     requires { ⌜ (vehicles .len ≤ 64) × All InTime (listed vehicles) ⌝ }
     ensures { λ r. ⌜ (pending r ≡ generate 0 (listed vehicles) []) × (r .head ≡ 0) × (r .tail ≤ 128) ⌝ }
 {
-    let none = Event {
-        time: 0,
-        kind: EventType::Arrival,
-        vehicle: 0,
-        charger: 0,
-    };
-    let mut q = EventQueue {
-        all: [none; 192],
-        head: 0,
-        tail: 0,
-    };
+    let mut rows = [[0; 3]; 128];
     let n = vehicles.len;
     let mut v = 0;
     while v < n {
-        q = q.arriving(vehicles.all[v], v);
+        let x = vehicles.all[v];
+        insert(&mut rows, 2 * v, [x.arrival, 0, v as u64]);
+        insert(&mut rows, 2 * v + 1, [x.arrival + x.wait, 1, v as u64]);
         v += 1;
     }
-    q
+    EventQueue {
+        all: events_of(&rows, 2 * n),
+        head: 0,
+        tail: 2 * n,
+    }
 }

@@ -1,4 +1,5 @@
 // Both engines (events.rs, session.rs, evse/site.rs, simulation/).
+pub mod alone;
 pub mod bank;
 pub mod charger_state;
 pub mod discrete;

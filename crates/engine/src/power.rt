@@ -1,4 +1,5 @@
 // The site's power (evse/site.rs), and rounds over the bank.
+use crate::alone::charge_alone;
 use crate::bank::load;
 use crate::bank::store;
 use crate::charger_state::Status;
@@ -200,6 +201,9 @@ pub fn charge_until(
             rounds: count,
             any: false,
         };
+    }
+    if cars == 1 {
+        return charge_alone(floats, bytes, n, places[0], curves, lens, limit, count);
     }
     let mut segments: [usize; 32] = [0; 32];
     let mut k = 0;

@@ -25,10 +25,13 @@ ghost use mathlib.Core.List.{List};
 ghost use Prim.Native.Nat.{ℕ, _+_, _≤_, _<_};
 ghost use lib.Ieee.{Float};
 ghost use lib.ListN.{take};
+ghost use Rattle.curve.specs.Curve.{integrateOver};
+ghost use Rattle.charger.specs.Charger.{ratedPower};
 ghost use Rattle.charger.specs.Lists.{All};
+ghost use Rattle.charger.specs.Profiles.{curveAt};
 ghost use Rattle.charger.specs.Queue.{seek};
 ghost use Rattle.charger.specs.Vehicle.{compatible, listed};
-ghost use Rattle.engine.specs.Plan.{chargerAt, rowAt, rated, output};
+ghost use Rattle.engine.specs.Plan.{chargerAt, rowAt, rated};
 ghost use Rattle.engine.specs.SiteState.{below};
 ghost use Rattle.engine.specs.Code.{batteryAt, planOf, takes, InTime, Sound, Starts, poppedFirst, requeued, Booked, Turned, Reneged};
 
@@ -189,11 +192,10 @@ pub fn row_of(rows: [[bool; 5]; 32], count: usize, c: usize) -> [bool; 5]
 }
 
 // A charger; past the last, one with no power.
-pub fn charger_of(site: Site, c: usize) -> Charger
-    ensures { λ r. ⌜ r ≡ chargerAt (take (site .count) (site .chargers)) c ⌝ }
+pub fn charger_of(chargers: [Charger; 32], count: usize, c: usize) -> Charger
+    ensures { λ r. ⌜ r ≡ chargerAt (take count chargers) c ⌝ }
 {
-    let chargers = site.chargers;
-    if c < site.count {
+    if c < count {
         if c < 32 {
             return chargers[c];
         }
@@ -206,10 +208,9 @@ pub fn charger_of(site: Site, c: usize) -> Charger
 }
 
 // A profile's battery; past the last, none.
-pub fn battery_of(site: Site, profile: usize) -> Kwh
-    ensures { λ r. ⌜ r ≡ batteryAt (site .batteries) profile ⌝ }
+pub fn battery_of(batteries: [Kwh; 16], profile: usize) -> Kwh
+    ensures { λ r. ⌜ r ≡ batteryAt batteries profile ⌝ }
 {
-    let batteries = site.batteries;
     if profile < 16 {
         return batteries[profile];
     }
@@ -221,28 +222,27 @@ pub fn rated_of(site: Site, rows: [[bool; 5]; 32], v: usize, c: usize) -> Kw
     ensures { λ r. ⌜ ((curves : List (List Float)) (lens : List ℕ) → r ≡ rated (planOf site rows curves lens) v c) ⌝ }
 {
     let vehicles = site.vehicles;
+    let chargers = site.chargers;
     rated_power(
-        charger_of(site, c),
+        charger_of(chargers, site.count, c),
         row_of(rows, site.count, c),
         vehicles.get_vehicle(v),
     )
 }
 
-// What charging the vehicle at the charger takes.
+// What charging the vehicle at a charger of these connectors takes.
 pub fn charging_output(
-    site: Site,
-    rows: [[bool; 5]; 32],
+    vehicle: Vehicle,
+    charger: Charger,
+    row: [bool; 5],
+    batteries: [Kwh; 16],
     curves: &[[f64; 2]],
     lens: &[u8],
-    v: usize,
-    c: usize,
 ) -> ChargingOutput
-    ensures { λ r. ⌜ r ≡ output (planOf site rows (now (curves .entry)) (now (lens .entry))) v c ⌝ }
+    ensures { λ r. ⌜ r ≡ integrateOver (curveAt (now (curves .entry)) (now (lens .entry)) (vehicle .profile)) (batteryAt batteries (vehicle .profile)) (vehicle .start) (vehicle .target) (ratedPower charger row vehicle) ⌝ }
 {
-    let vehicles = site.vehicles;
-    let vehicle = vehicles.get_vehicle(v);
-    let rated = rated_of(site, rows, v, c);
-    let battery = battery_of(site, vehicle.profile);
+    let rated = rated_power(charger, row, vehicle);
+    let battery = battery_of(batteries, vehicle.profile);
     integrate_over(
         profile_curve(curves, lens, vehicle.profile),
         battery,

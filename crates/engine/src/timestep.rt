@@ -24,7 +24,7 @@ use curve::units::Kw;
 use curve::units::Kwh;
 use curve::units::Seconds;
 ghost use mathlib.Core.Path.{_≡_};
-ghost use mathlib.Core.Bool.{Bool, false, _&&_};
+ghost use mathlib.Core.Bool.{false, _&&_};
 ghost use mathlib.Core.List.{List};
 ghost use lib.Ieee.{Float};
 ghost use Prim.Native.Nat.{ℕ, _+_, _-_, _≤_, _<_};
@@ -117,9 +117,10 @@ fn start_charging(
     ensures others { λ r. ⌜ Elsewhere c (now (floats .entry)) (now (bytes .entry)) (now (floats .exit)) (now (bytes .exit)) ⌝ }
 {
     let vehicles = site.vehicles;
+    let batteries = site.batteries;
     let car = vehicles.get_vehicle(v);
     let power = rated_of(site, rows, v, c);
-    let battery = battery_of(site, car.profile);
+    let battery = battery_of(batteries, car.profile);
     let sessions = simulation.sessions;
     let state = plugged(car, battery, power, sessions.len);
     store(floats, bytes, c, state);

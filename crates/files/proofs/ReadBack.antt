@@ -135,7 +135,7 @@ header-passes count engine ended used = sealed-passes 1 _ refl
 
 session-block-passes : (xs : List BookSession) (j : ℕ) → passes (j + 2) (sessionBlock xs j) ≡ true
 unfolding sessionBlock
-session-block-passes xs j = sealed-passes (j + 2) _ (body-length xs j)
+session-block-passes xs j = sealed-passes (j + 2) _ (body-length xs (5 * j))
 
 in-header : (engine ended used : ℕ) (xs : List BookSession) (rest : List ℕ) → take 512 (bookBytes engine ended used xs ++ rest) ≡ headerBlock (length xs) engine ended used
 unfolding bookBytes

@@ -1,6 +1,6 @@
 -- Laws of a loop over the indices from some k up to, not including, n, and of a list that such a loop fills. Assumes nothing.
-use mathlib.Core.Path.{_≡_, refl, ap, _∙_}
-use mathlib.Core.Bool.{Bool, true, false, cond, _&&_, false≢true}
+use mathlib.Core.Path.{_≡_, refl, sym, ap, _∙_}
+use mathlib.Core.Bool.{Bool, true, false, cond, _&&_, and-assoc, false≢true}
 use mathlib.Core.Logic.{inl, inr}
 use mathlib.Core.List.{List, [], _∷_, _++_, map, map-append}
 use Prim.Native.Nat.{ℕ, zero, suc, _+_, _-_, _<_, _≤_}
@@ -8,6 +8,7 @@ use native.Mathlib.Nat.{add-zero, zero-add, eq-or-lt-of-le}
 use native.Mathlib.Numerals.{add-one}
 use native.Mathlib.Omega.{arith}
 use lib.ListN.{length, getD, set, take}
+use lib.Seq.{getD-take}
 use Rattle.charger.specs.Lists.{All, none, also}
 use Rattle.charger.proofs.Lists.{by-cond}
 use Rattle.charger.proofs.Part.{take-more, take-set}
@@ -43,6 +44,15 @@ module _ (f : ℕ → Bool) (k n : ℕ) where
   pub every-end : n ≤ k → every f k (n - k) ≡ true
   unfolding every
   every-end h = let e : n - k ≡ 0 = omega arith in rw e
+
+  -- a loop that does not stop early: what f says at k joins what is known of the indices before it
+  pub every-joined : {t : Bool} (known : Bool) → k < n → (known && every f k (n - k)) ≡ t → (known && f k && every f (k + 1) (n - (k + 1))) ≡ t
+  unfolding every
+  every-joined known h p = and-assoc known (f k) _ ∙ rw add-one (rw (left h) at p)
+
+  pub every-known : {t : Bool} (known : Bool) → n ≤ k → (known && every f k (n - k)) ≡ t → known ≡ t
+  every-known true h p = sym (every-end h) ∙ p
+  every-known false h p = p
 
 pub and-true : (a b : Bool) → (a && b) ≡ true → (a ≡ true) × (b ≡ true)
 and-true true b e = (refl, e)
@@ -113,6 +123,13 @@ every-at f k (suc m) h j a b =
       | inr q ↦ every-at f (suc k) m (both .1) j q (omega arith)
     ]
 
+-- two properties that agree at each index
+pub every-same : (f g : ℕ → Bool) (k m : ℕ) → ((j : ℕ) → k ≤ j → j < k + m → f j ≡ g j) → every f k m ≡ every g k m
+unfolding every
+every-same f g k zero h = refl
+every-same f g k (suc m) h =
+    rw (h k (omega arith) (omega arith), every-same f g (suc k) m (λ j a b. h j (omega arith) (omega arith)))
+
 -- ---- a list that is filled from the front
 
 module _ {A : Type 0} (f : ℕ → A) where
@@ -139,6 +156,10 @@ module _ {A : Type 0} (f : ℕ → A) where
   -- one store more
   pub fill-step : (a : List A) (i : ℕ) (x : A) → i < length a → take i a ≡ each f 0 i → x ≡ f i → take (i + 1) (set a i x) ≡ each f 0 (i + 1)
   fill-step a i x h e p = take-set a i x h ∙ rw (e, p, add-one, each-suc 0 i, zero-add)
+
+  -- a member of what is filled
+  pub fill-at : (a : List A) (n i : ℕ) (d : A) → take n a ≡ each f 0 n → i < n → getD a i d ≡ f i
+  fill-at a n i d e h = sym (getD-take n a i d h) ∙ rw (e, each-at 0 n i d h, zero-add)
 
   -- every member has a property that f has at every index
   pub all-each : {P : A → Type 0} (k m : ℕ) → ((i : ℕ) → k ≤ i → i < k + m → P (f i)) → All P (each f k m)

@@ -1,9 +1,11 @@
 -- What the book says of a session.
-use Prim.Native.Nat.{ℕ}
+use Prim.Native.Nat.{ℕ, _≤_}
+use mathlib.Core.Path.{_≡_}
 use mathlib.Core.Bool.{Bool, true, false, cond}
 use mathlib.Core.List.{List, map}
 use lib.Dec.{ltb}
 use lib.Ieee.{Float}
+use lib.ListN.{getD}
 use Rattle.curve.specs.F64.{ratio}
 use Rattle.charger.specs.Vehicle.{connectorOf, vehicleAt}
 use Rattle.charger.specs.declared.connector.Resolved.{Resolved}
@@ -98,3 +100,7 @@ noSession =
       start = ratio 0 1;
       end = ratio 0 1;
     }
+
+-- no session stands in the places from n on
+abbrev pub emptyFrom : ℕ → List BookSession → Type 0
+emptyFrom n xs = (k : ℕ) → n ≤ k → getD xs k noSession ≡ noSession

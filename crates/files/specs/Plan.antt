@@ -3,8 +3,8 @@ use Prim.Native.Nat.{ℕ, _+_, _-_, _*_, _/_, _%_}
 use mathlib.Core.Bool.{Bool, true, false, cond, not, _&&_}
 use mathlib.Core.List.{List, [], _∷_}
 use lib.Dec.{leb, ltb, eqb}
-use lib.Ieee.{eq}
-use lib.ListN.{length}
+use lib.Ieee.{Float, nan, eq}
+use lib.ListN.{length, getD}
 use Rattle.files.specs.Bytes.{leAt}
 use Rattle.files.specs.Blocks.{passes, block}
 use Rattle.files.specs.Search.{first, every, holds}
@@ -74,6 +74,10 @@ fieldTests HeaderBlock b = headerTests b
 fieldTests Profile b = profileTests b
 fieldTests Charger b = chargerTests b
 fieldTests Vehicle b = vehicleTests b
+
+-- the i-th of some SOCs equals none before it
+unfoldable pub newAmong : List Float → ℕ → Bool
+newAmong socs i = every (λ j. not (eq (getD socs j nan) (getD socs i nan))) 0 i
 
 -- the i-th point's SOC equals that of no point before it
 unfoldable pub newSoc : List ℕ → ℕ → Bool

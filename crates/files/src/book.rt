@@ -2,20 +2,21 @@
 use crate::blocks::seal;
 use crate::book_session::BookSession;
 use crate::book_session::entries;
-use crate::book_session::no_session;
 use crate::bytes::put;
 use crate::bytes::put_fields;
 use charger::vehicle_list::VehicleList;
 use curve::float::to_bits;
 use engine::session::Sessions;
 ghost use mathlib.Core.Path.{_≡_};
-ghost use Prim.Native.Nat.{_+_, _*_, _/_, _≤_, _<_};
-ghost use lib.ListN.{length, getD, take};
+ghost use mathlib.Core.List.{_++_};
+ghost use Prim.Native.Nat.{_+_, _/_, _≤_, _<_};
+ghost use lib.ListN.{length, take};
 ghost use lib.Seq.{sets};
 ghost use Rattle.engine.specs.Code.{booked};
-ghost use Rattle.files.specs.Bytes.{pieces};
-ghost use Rattle.files.specs.BookSession.{noSession, bookSessions};
-ghost use Rattle.files.specs.Book.{sessionBytes, slot as Book·slot, sessionBlock, headerBlock, bookBytes, written, Writable};
+ghost use Rattle.files.specs.Bytes.{bytes, pieces};
+ghost use Rattle.files.specs.Blocks.{sealed};
+ghost use Rattle.files.specs.BookSession.{emptyFrom, bookSessions};
+ghost use Rattle.files.specs.Book.{sessionBytes, slot, sessionBlock, headerBlock, bookBytes, written, Writable};
 
 // Stores the 96 bytes of a session into s from at.
 fn put_session(s: &mut [u8], at: usize, x: BookSession)
@@ -65,48 +66,45 @@ fn put_session(s: &mut [u8], at: usize, x: BookSession)
     put_fields(s, at, &f);
 }
 
-// The session at k of the first n, or none past them.
-fn slot(sessions: [BookSession; 64], n: usize, k: usize) -> BookSession
-    requires { ⌜ n ≤ 64 ⌝ }
-    ensures { λ r. ⌜ r ≡ getD (take n sessions) k noSession ⌝ }
-{
-    if k < n {
-        return sessions[k];
-    }
-    no_session()
-}
-
-// Stores the sessions from..from + 5 of the first n into s from at.
-fn put_slots(s: &mut [u8], at: usize, sessions: [BookSession; 64], n: usize, from: usize)
-    requires { ⌜ (n ≤ 64) × ((from ≤ 64) × (at + 480 ≤ length (now s))) ⌝ }
-    ensures { λ _. ⌜ now (s .exit) ≡ sets (now (s .entry)) at (pieces (Book·slot (take n sessions)) from 5) ⌝ }
+// Stores five sessions, one after the other, into s from at.
+fn put_slots(s: &mut [u8], at: usize, five: [BookSession; 5])
+    requires { ⌜ at + 480 ≤ length (now s) ⌝ }
+    ensures { λ _. ⌜ now (s .exit) ≡ sets (now (s .entry)) at (pieces (slot five) 0 5) ⌝ }
 {
     let mut i: usize = 0;
     while i < 5 {
-        put_session(s, at + 96 * i, slot(sessions, n, from + i));
+        put_session(s, at + 96 * i, five[i]);
         i += 1;
     }
 }
 
-// Stores the block of the sessions 5 j to 5 j + 4 of the first n into s from at.
-fn put_session_block(s: &mut [u8], at: usize, sessions: [BookSession; 64], n: usize, j: usize)
-    requires { ⌜ (n ≤ 64) × ((j < 13) × (at + 512 ≤ length (now s))) ⌝ }
-    ensures { λ _. ⌜ now (s .exit) ≡ sets (now (s .entry)) at (sessionBlock (take n sessions) j) ⌝ }
+// Stores five sessions as the j-th session block, counted from 0, into s from at.
+fn put_session_block(s: &mut [u8], at: usize, five: [BookSession; 5], j: usize)
+    requires { ⌜ (j < 13) × (at + 512 ≤ length (now s)) ⌝ }
+    ensures { λ _. ⌜ now (s .exit) ≡ sets (now (s .entry)) at (sealed (j + 2) (pieces (slot five) 0 5 ++ bytes 28 0)) ⌝ }
 {
-    put_slots(s, at, sessions, n, 5 * j);
+    put_slots(s, at, five);
     put(s, at + 480, 28, 0);
     seal(s, at, j as u32 + 2);
 }
 
 // Stores the blocks of the first n sessions into s from at.
-fn put_session_blocks(s: &mut [u8], at: usize, sessions: [BookSession; 64], n: usize)
+fn put_session_blocks(s: &mut [u8], at: usize, sessions: [BookSession; 65], n: usize)
     requires { ⌜ (n ≤ 64) × (at + 6656 ≤ length (now s)) ⌝ }
-    ensures { λ _. ⌜ now (s .exit) ≡ sets (now (s .entry)) at (pieces (sessionBlock (take n sessions)) 0 ((n + 4) / 5)) ⌝ }
+    ensures { λ _. ⌜ now (s .exit) ≡ sets (now (s .entry)) at (pieces (sessionBlock sessions) 0 ((n + 4) / 5)) ⌝ }
 {
     let blocks = (n + 4) / 5;
     let mut j: usize = 0;
     while j < blocks {
-        put_session_block(s, at + 512 * j, sessions, n, j);
+        let k = 5 * j;
+        let five = [
+            sessions[k],
+            sessions[k + 1],
+            sessions[k + 2],
+            sessions[k + 3],
+            sessions[k + 4],
+        ];
+        put_session_block(s, at + 512 * j, five, j);
         j += 1;
     }
 }
@@ -140,16 +138,16 @@ fn put_header(s: &mut [u8], count: u64, engine: u8, ended: u8, used: u64)
     seal(s, 0, 1);
 }
 
-// Stores the book of the first n sessions; the bytes past its last block stay.
+// Stores the book of the first n sessions, past which there is none; the bytes past its last block stay.
 fn put_book(
     book: &mut [u8],
-    sessions: [BookSession; 64],
+    sessions: [BookSession; 65],
     n: usize,
     engine: u8,
     ended: u8,
     used: u64,
 )
-    requires { ⌜ (n ≤ 64) × (7168 ≤ length (now book)) ⌝ }
+    requires { ⌜ (n ≤ 64) × ((7168 ≤ length (now book)) × emptyFrom n sessions) ⌝ }
     ensures { λ _. ⌜ now (book .exit) ≡ written (bookBytes engine ended used (take n sessions)) (now (book .entry)) ⌝ }
 {
     put_header(book, n as u64, engine, ended, used);

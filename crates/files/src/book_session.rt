@@ -23,7 +23,7 @@ ghost use Rattle.engine.specs.Code.{booked};
 ghost use Rattle.files.specs.Fields.{chargerCount};
 ghost use Rattle.files.specs.Read.{Counted};
 ghost use Rattle.engine.specs.Demand.{outcomeNumber};
-ghost use Rattle.files.specs.BookSession.{plugged as BookSession·plugged, charged as BookSession·charged, kept as BookSession·kept, codeOf, vehicleNumber, chargerId, entry as BookSession·entry, noSession};
+ghost use Rattle.files.specs.BookSession.{plugged as BookSession·plugged, charged as BookSession·charged, kept as BookSession·kept, codeOf, vehicleNumber, chargerId, entry as BookSession·entry, noSession, emptyFrom};
 
 // A session as the book holds it; what is missing by its outcome is 0.
 pub struct BookSession {
@@ -161,7 +161,7 @@ fn entry(plan: &[u8], vehicles: VehicleList, rows: [[bool; 5]; 32], x: Session) 
     }
 }
 
-pub fn no_session() -> BookSession
+fn no_session() -> BookSession
     ensures { λ r. ⌜ r ≡ noSession ⌝ }
 {
     BookSession {
@@ -183,20 +183,21 @@ pub fn no_session() -> BookSession
     }
 }
 
-// What the book says of all sessions: as many of the array's first as there are sessions.
+// What the book says of all sessions: as many of the array's first as there are sessions, and none past them.
+// 65 are 13 blocks of five.
 pub fn entries(
     plan: &[u8],
     vehicles: VehicleList,
     rows: [[bool; 5]; 32],
     sessions: Sessions,
-) -> [BookSession; 64]
+) -> [BookSession; 65]
     requires { ⌜ Counted (now plan) × (sessions .len ≤ 64) ⌝ }
-    ensures { λ r. ⌜ take (sessions .len) r ≡ map (BookSession·entry (now (plan .entry)) (listed vehicles) (take (chargerCount (now (plan .entry))) rows)) (booked sessions) ⌝ }
+    ensures { λ r. ⌜ (take (sessions .len) r ≡ map (BookSession·entry (now (plan .entry)) (listed vehicles) (take (chargerCount (now (plan .entry))) rows)) (booked sessions)) × emptyFrom (sessions .len) r ⌝ }
 {
     let n = sessions.len;
     let xs = sessions.all;
     let none = no_session();
-    let mut all = [none; 64];
+    let mut all = [none; 65];
     let mut i = 0;
     while i < n {
         all[i] = entry(plan, vehicles, rows, xs[i]);

@@ -29,19 +29,19 @@ fn f64_in(b: &[u8], at: usize, lo: f64, hi: f64) -> bool
 }
 
 // Each byte of b from `from` up to, not including, `to` is within lo and hi.
+// There is no early exit, so that the compiler can take many bytes at once.
 fn bytes_in(b: &[u8], from: usize, to: usize, lo: u8, hi: u8) -> bool
     requires { ⌜ to ≤ length (now b) ⌝ }
     ensures { λ r. ⌜ r ≡ bytesIn (now (b .entry)) from to lo hi ⌝ }
 {
+    let mut ok = true;
     let mut k = from;
     while k < to {
         let x = b[k];
-        if !((lo <= x) & (x <= hi)) {
-            return false;
-        }
+        ok = ok & ((lo <= x) & (x <= hi));
         k += 1;
     }
-    true
+    ok
 }
 
 fn zeros(b: &[u8], from: usize, to: usize) -> bool

@@ -80,10 +80,11 @@ pub fn failing_pair(
     let n = vehicles.len;
     let mut v = 0;
     while v < n {
-        let vehicle = vehicles.get_vehicle(v);
+        let vehicle = vehicles.all[v];
         let profile = vehicle.profile;
         let curve = profile_curve(curves, lens, profile);
-        let battery = battery_of(site, profile);
+        let batteries = site.batteries;
+        let battery = battery_of(batteries, profile);
         let c = failing_charger(curve, battery, vehicle, chargers, rows, count);
         if c < count {
             return FailingPair::Pair(v, c);

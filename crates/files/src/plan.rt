@@ -15,10 +15,11 @@ use crate::ids::with_id;
 ghost use mathlib.Core.Path.{_≡_};
 ghost use mathlib.Core.Bool.{not};
 ghost use Prim.Native.Nat.{_+_, _*_, _≤_, _<_};
-ghost use lib.ListN.{length, getD};
+ghost use lib.ListN.{length, getD, take};
 ghost use Rattle.files.specs.Blocks.{passes, block as Blocks·block};
-ghost use Rattle.files.specs.Search.{first, every, holds};
-ghost use Rattle.files.specs.Plan.{kindAt, startOf, isProfile, isVehicle, countTests, fieldTests, newSoc, broken as Plan·broken, rules, refusal as Plan·refusal, checkBlocks};
+ghost use Rattle.files.specs.Search.{first, every, holds, each};
+ghost use Rattle.files.specs.Fields.{f64At};
+ghost use Rattle.files.specs.Plan.{kindAt, startOf, isProfile, isVehicle, countTests, fieldTests, newAmong, newSoc, broken as Plan·broken, rules, refusal as Plan·refusal, checkBlocks};
 
 // 113 blocks: a header, 16 profiles, 32 chargers and 64 vehicles.
 const LONGEST: usize = 57_856;
@@ -140,29 +141,43 @@ fn fields_ok(kind: Kind, b: &[u8]) -> bool
     }
 }
 
-// 9: the i-th point's SOC equals that of no point before it.
-fn new_soc(b: &[u8], i: usize) -> bool
-    requires { ⌜ (length (now b) ≡ 512) × (i < 30) ⌝ }
-    ensures { λ r. ⌜ r ≡ newSoc (now (b .entry)) i ⌝ }
+// Reads the SOCs of the first n points of a profile's block into socs.
+fn read_socs(socs: &mut [f64], b: &[u8], n: usize)
+    requires { ⌜ (length (now b) ≡ 512) × ((n ≤ 30) × (n ≤ length (now socs))) ⌝ }
+    ensures { λ _. ⌜ take n (now (socs .exit)) ≡ each (λ j. f64At (now (b .entry)) (16 + 16 * j)) 0 n ⌝ }
 {
-    let x = f64_at(b, 16 + 16 * i);
+    let mut i = 0;
+    while i < n {
+        socs[i] = f64_at(b, 16 + 16 * i);
+        i += 1;
+    }
+}
+
+// 9: the i-th SOC equals none before it.
+// There is no early exit, so that the compiler can take many SOCs at once.
+fn new_soc(socs: &[f64], i: usize) -> bool
+    requires { ⌜ i < length (now socs) ⌝ }
+    ensures { λ r. ⌜ r ≡ newAmong (now (socs .entry)) i ⌝ }
+{
+    let x = socs[i];
+    let mut new = true;
     let mut j = 0;
     while j < i {
-        if f64_at(b, 16 + 16 * j) == x {
-            return false;
-        }
+        new = new & !(socs[j] == x);
         j += 1;
     }
-    true
+    new
 }
 
 fn new_socs(b: &[u8], n: usize) -> bool
     requires { ⌜ (length (now b) ≡ 512) × (n ≤ 30) ⌝ }
     ensures { λ r. ⌜ r ≡ every (newSoc (now (b .entry))) 0 n ⌝ }
 {
+    let mut socs: [f64; 30] = [0.0; 30];
+    read_socs(&mut socs, b, n);
     let mut i = 0;
     while i < n {
-        if !new_soc(b, i) {
+        if !new_soc(&socs, i) {
             return false;
         }
         i += 1;

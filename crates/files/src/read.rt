@@ -23,13 +23,13 @@ use engine::site::Site;
 ghost use mathlib.Core.Path.{_≡_};
 ghost use Prim.Native.Nat.{ℕ, _+_, _≤_, _<_};
 ghost use lib.ListN.{length, take};
-ghost use Rattle.curve.specs.Curve.{points, curveOf};
+ghost use Rattle.curve.specs.Curve.{points};
 ghost use Rattle.charger.specs.Vehicle.{listed};
 ghost use Rattle.charger.specs.Profiles.{curveAt};
 ghost use Rattle.engine.specs.Code.{batteryAt};
 ghost use Rattle.files.specs.Search.{each};
-ghost use Rattle.files.specs.Fields.{profileCount, chargerCount, vehicleCount, pointCount};
-ghost use Rattle.files.specs.Read.{Counted, SiteRead, pointAt, pointsOf, curveOfProfile, batteryOf, codesAt, chargerOf, rowOfCharger, chargersOf, connectorsOf, profilePlace, vehicleOf, vehicleIn, vehiclesOf, limitOf};
+ghost use Rattle.files.specs.Fields.{chargerCount, vehicleCount};
+ghost use Rattle.files.specs.Read.{Counted, SiteRead, pointAt, curveOfProfile, batteryOf, codesAt, chargerOf, rowOfCharger, chargersOf, connectorsOf, profilePlace, vehicleOf, vehiclesOf, limitOf};
 
 // Stores the first n points of a profile's block into rows.
 fn store_points(rows: &mut [[f64; 2]], b: &[u8], n: usize)

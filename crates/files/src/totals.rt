@@ -8,7 +8,6 @@ use engine::site::Simulation;
 ghost use mathlib.Core.Path.{_≡_};
 ghost use Prim.Native.Nat.{_≤_};
 ghost use lib.Dec.{eqb};
-ghost use lib.ListN.{length};
 ghost use Rattle.charger.specs.Lists.{tick};
 ghost use Rattle.charger.specs.Queue.{waiting};
 ghost use Rattle.engine.specs.Code.{pending, booked, Sound};

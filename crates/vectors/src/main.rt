@@ -2,9 +2,7 @@
 // each. The record: a 32-bit number of inputs; for each its 32-bit length, a 16-bit number of changes, and the changes: a 16-bit place, a
 // byte count, and as many bytes. All of its numbers are below 65,536.
 use libc::STDIN_FILENO;
-ghost use mathlib.Core.Path.{_≡_};
 ghost use Prim.Native.Nat.{_<_};
-ghost use lib.ListN.{length};
 
 fn wide(x: u8) -> usize
     ensures { λ r. ⌜ r < 256 ⌝ }

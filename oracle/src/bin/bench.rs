@@ -34,7 +34,8 @@ fn main() {
     );
     println!("| work | original | other | other / original |");
     println!("|---|---|---|---|");
-    for work in works() {
+    let named = std::env::args().nth(1).unwrap_or_default();
+    for work in works().into_iter().filter(|work| work.name.contains(&named)) {
         let times = measure(&work);
         let ratios = times[1].iter().zip(&times[0]).map(|(other, original)| other / original).collect();
         let [original, other] = times.map(median);
@@ -119,6 +120,7 @@ fn works() -> Vec<Work> {
         }
     }
     works.push(day());
+    works.push(sparse_day());
     works.push(far_apart());
     works.push(Work {
         name: "events: 64 vehicles, 32 chargers".into(),
@@ -174,8 +176,7 @@ fn rounds(chargers: u32, points: u32, high: bool, limited: bool) -> Work {
 fn day() -> Work {
     let mut draw = Draw::new(5, 0);
     let mut draft = Draft::default();
-    let curve: Vec<(f64, f64)> = (0..10).map(|k| (f64::from(k) / 10.0, 150.0 - 12.0 * f64::from(k))).collect();
-    draft.profiles.push(profile(1, 60.0, &curve));
+    draft.profiles.push(profile(1, 60.0, &sloped()));
     draft.set_limit(250.0);
     for k in 0..4 {
         draft.chargers.push(charger(k, &[], 100.0, 400.0, 400.0));
@@ -191,6 +192,29 @@ fn day() -> Work {
         run: Some((1, 10_000_000)),
         per: Per::Call,
     }
+}
+
+/// Four chargers and three cars over a day, each for about ten minutes.
+fn sparse_day() -> Work {
+    let mut draft = Draft::default();
+    draft.profiles.push(profile(1, 60.0, &sloped()));
+    for k in 0..4 {
+        draft.chargers.push(charger(k, &[], 100.0, 400.0, 400.0));
+    }
+    for (id, arrival) in [(1, 6 * 3_600), (2, 13 * 3_600), (3, 22 * 3_600)] {
+        draft.vehicles.push(Car { id, arrival, start: 0.3, target: 0.55, ..Car::default() }.block());
+    }
+    Work {
+        name: "steps: a sparse day of three cars".into(),
+        plan: draft.bytes(),
+        run: Some((1, 10_000_000)),
+        per: Per::Call,
+    }
+}
+
+/// Ten points of falling power.
+fn sloped() -> Vec<(f64, f64)> {
+    (0..10).map(|k| (f64::from(k) / 10.0, 150.0 - 12.0 * f64::from(k))).collect()
 }
 
 /// Two short stays almost twelve days apart.

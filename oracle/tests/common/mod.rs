@@ -1,8 +1,8 @@
 //! The bay of document 01's worked cases, and short ways to run it.
 #![allow(dead_code)]
 use oracle::Numbers;
-use oracle::book::{self, Entry, LEAST_BOOK};
 pub use oracle::bay::{bay, brief};
+use oracle::book::{self, Entry, LEAST_BOOK};
 use oracle::draft::Draft;
 
 pub const EVENTS: u32 = 0;

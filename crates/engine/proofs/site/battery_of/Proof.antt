@@ -17,16 +17,16 @@ array-copy-out-result c = search needs
 
 returns : tie.Need-returns
 returns c =
-    let a = c .before .before .before .args in
-    let long : length (a .site .batteries) ≡ 16 = search (needs, length-mapped) in
-    getD-any (a .site .batteries) (a .profile) _ _ (omega arith)
+    let a = c .before .before .args in
+    let long : length (a .t1) ≡ 16 = search (needs, length-mapped) in
+    getD-any (a .t1) (a .profile) _ _ (omega arith)
 
 returns-2 : tie.Need-returns-2
 unfolding ofBits ratio
 returns-2 c =
-    let a = c .before .before .args in
-    let long : length (a .site .batteries) ≡ 16 = search (needs, length-mapped) in
-    sym (List·getD-eq-default (a .site .batteries) _ {n = a .profile} (omega arith))
+    let a = c .before .args in
+    let long : length (a .t1) ≡ 16 = search (needs, length-mapped) in
+    sym (List·getD-eq-default (a .t1) _ {n = a .profile} (omega arith))
 
 pub battery-of-spec : {M : Type 1} → statement M
 battery-of-spec = tie.close (tie.spec mul-result array-copy-out-result returns returns-2)

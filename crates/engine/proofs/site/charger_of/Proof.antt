@@ -20,22 +20,22 @@ array-copy-out-result c = search needs
 returns : tie.Need-returns
 unfolding chargerAt
 returns c =
-    let a = c .before .before .before .before .before .args in
-    let long : length (a .site .chargers) ≡ 32 = search (needs, length-mapped) in
-    at-inside (a .site .chargers) (a .site .count) (a .c) _ _ (omega arith) (omega arith)
+    let a = c .before .before .before .args in
+    let long : length (a .t1) ≡ 32 = search (needs, length-mapped) in
+    at-inside (a .t1) (a .count) (a .c) _ _ (omega arith) (omega arith)
 
 returns-2 : tie.Need-returns-2
 unfolding chargerAt ofBits ratio
 returns-2 c =
-    let a = c .before .before .before .before .args in
-    let long : length (a .site .chargers) ≡ 32 = search (needs, length-mapped) in
-    at-past (a .site .chargers) (a .site .count) (a .c) _ (simp length-take (omega arith))
+    let a = c .before .before .args in
+    let long : length (a .t1) ≡ 32 = search (needs, length-mapped) in
+    at-past (a .t1) (a .count) (a .c) _ (simp length-take (omega arith))
 
 returns-3 : tie.Need-returns-3
 unfolding chargerAt ofBits ratio
 returns-3 c =
-    let a = c .before .before .before .args in
-    at-past (a .site .chargers) (a .site .count) (a .c) _ (simp length-take (omega arith))
+    let a = c .before .args in
+    at-past (a .t1) (a .count) (a .c) _ (simp length-take (omega arith))
 
 pub charger-of-spec : {M : Type 1} → statement M
 charger-of-spec = tie.close (tie.spec mul-result array-copy-out-result returns returns-2 returns-3)

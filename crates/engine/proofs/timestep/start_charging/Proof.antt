@@ -27,13 +27,13 @@ battery-of-requires c κs = search needs
 
 plugged-requires : tie.Need-plugged-requires
 plugged-requires c κs =
-    let start = c .before .before .before .before .before .before .before in
+    let start = c .before .before .before .before .before .before .before .before in
     let small = profile-of _ (start .pre .1 .0 .profiles) (start .args .v) in
     (rw (c .before .before .before .get-vehicle .ensures) (omega arith), omega (arith, start .pre .1 .1 .0 .account))
 
 store-requires : tie.Need-store-requires
 store-requires c κs =
-    let start = c .before .before .before .before .before .before .before .before .before .before in
+    let start = c .before .before .before .before .before .before .before .before .before .before .before in
     record { nine = omega (arith, start .pre .0 .nine); three = omega (arith, start .pre .0 .three) }
 
 started-requires : tie.Need-started-requires
@@ -41,7 +41,7 @@ started-requires c κs = search needs
 
 with-session-requires : tie.Need-with-session-requires
 with-session-requires c κs =
-    omega (arith, c .before .before .before .before .before .before .before .before .before .before .before .before .before .before .before .before .pre .1 .1 .0 .account)
+    omega (arith, c .before .before .before .before .before .before .before .before .before .before .before .before .before .before .before .before .before .pre .1 .1 .0 .account)
 
 same-length : tie.Need-same-length
 same-length c = search needs
@@ -51,7 +51,7 @@ same-length-2 c = search needs
 
 returns : tie.Need-returns
 returns c =
-    let start = c .before .before .before .before .before .before .before .before .before .before .before .before .before .before .before .before .before in
+    let start = c .before .before .before .before .before .before .before .before .before .before .before .before .before .before .before .before .before .before in
     let a = start .args in
     let car = c .before .before .before .before .before .before .before .before .before .before .before .before .before .get-vehicle .ensures in
     let stored = c .before .before .before .before .before .before .store .ensures in

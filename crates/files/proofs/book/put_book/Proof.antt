@@ -4,7 +4,7 @@ use native.Mathlib.Omega.{arith}
 use lib.ListN.{length, take}
 use lib.Seq.{length-take-le}
 use borrow.Author.Needs.{needs}
-use Rattle.files.proofs.BookLaws.{put-book}
+use Rattle.files.proofs.BookLaws.{first-blocks, put-book}
 use Rattle.files.proofs.book.put_book.Statement.{statement}
 use Rattle.files.proofs.book.put_book.Tie as tie
 
@@ -24,7 +24,7 @@ returns c =
     let n : length (take (a .n) (a .sessions)) ≡ a .n = length-take-le (a .n) (a .sessions) (omega (arith, start)) in
     put-book (a .book .now) (c .before .before .before .before .before .before .put-header .last .0) (c .before .before .put-session-blocks .last .0) (a .engine) (a .ended) (a .used) (take (a .n) (a .sessions)) (omega arith) (omega arith)
     (rw n (c .before .before .before .before .before .before .put-header .ensures))
-    (rw n (c .before .before .put-session-blocks .ensures))
+    (rw (n, first-blocks (a .n) (a .sessions) (start .pre .1 .1)) (c .before .before .put-session-blocks .ensures))
 
 pub put-book-spec : {M : Type 1} → statement M
 put-book-spec =

@@ -1,11 +1,14 @@
 -- `files::book::put_slots` meets its contract. Assumes nothing.
 use mathlib.Core.Path.{_≡_, refl}
 use Prim.Native.Nat.{_+_, _-_, _*_, _≤_}
-use native.Mathlib.Nat.{add-zero, add-assoc}
+use native.Mathlib.Nat.{add-zero}
 use native.Mathlib.Omega.{arith}
-use lib.ListN.{length, take}
+use borrow.Author.Needs.{needs}
+use lib.ListN.{length}
 use lib.Seq.{sets}
+use Rattle.charger.proofs.Part.{getD-any}
 use Rattle.files.specs.Bytes.{pieces}
+use Rattle.files.specs.BookSession.{noSession}
 use Rattle.files.specs.Book.{slot}
 use Rattle.files.proofs.ByteLaws.{pieces-step}
 use Rattle.files.proofs.BookLaws.{length-slot}
@@ -13,13 +16,13 @@ use Rattle.files.proofs.book.put_slots.Statement.{statement}
 use Rattle.files.proofs.book.put_slots.Tie as tie
 
 abbrev Inv-loop : tie.InvT-loop
-Inv-loop s₀ at sessions n from i₀ s i =
+Inv-loop s₀ at five i₀ s i =
     (i ≤ 5)
     × ((length s ≡ length s₀)
-    × (sets s (at + 96 * i) (pieces (slot (take n sessions)) (from + i) (5 - i)) ≡ sets s₀ at (pieces (slot (take n sessions)) from 5)))
+    × (sets s (at + 96 * i) (pieces (slot five) i (5 - i)) ≡ sets s₀ at (pieces (slot five) 0 5)))
 
 abbrev μ-loop : tie.MeasureT-loop
-μ-loop s₀ at sessions n from i₀ s i = 5 - i
+μ-loop s₀ at five i₀ s i = 5 - i
 
 loop-holds : tie.Need-loop-holds Inv-loop μ-loop
 loop-holds c = (omega arith, (refl, simp add-zero))
@@ -30,11 +33,11 @@ mul-put-session c = omega arith
 add-put-session : tie.Need-add-put-session Inv-loop μ-loop
 add-put-session c = omega arith
 
-add-slot : tie.Need-add-slot Inv-loop μ-loop
-add-slot c = omega arith
+mul-put-session-2 : tie.Need-mul-put-session-2 Inv-loop μ-loop
+mul-put-session-2 c = omega arith
 
-slot-requires : tie.Need-slot-requires Inv-loop μ-loop
-slot-requires c κs = omega arith
+array-copy-out-put-session : tie.Need-array-copy-out-put-session Inv-loop μ-loop
+array-copy-out-put-session c = search needs
 
 put-session-requires : tie.Need-put-session-requires Inv-loop μ-loop
 put-session-requires c κs = omega arith
@@ -49,12 +52,13 @@ loop-again : tie.Need-loop-again Inv-loop μ-loop
 unfolding slot
 loop-again c =
     let at-loop = c .before .before .before .before .before .before in
-    let a = at-loop .before .before .args in (
+    let a = at-loop .before .before .args in
+    let long : length (a .t3) ≡ 5 = search needs in (
       omega arith,
       (
         omega arith,
-        rw (c .before .before .put-session .ensures, c .before .before .before .slot .ensures, ← add-assoc (a .from) (at-loop .loop .i) 1)
-            (pieces-step (slot (take (a .n) (a .sessions))) 96 (length-slot (take (a .n) (a .sessions))) (at-loop .loop .s) _ (a .at) (a .from + at-loop .loop .i) 5 (at-loop .loop .i) (omega arith) (at-loop .loop .inv .1 .1)),
+        rw (c .before .before .put-session .ensures, getD-any (a .t3) (at-loop .loop .i) _ noSession (omega arith))
+            (pieces-step (slot (a .t3)) 96 (length-slot (a .t3)) (at-loop .loop .s) _ (a .at) (at-loop .loop .i) 5 (at-loop .loop .i) (omega arith) (at-loop .loop .inv .1 .1)),
       ),
     )
 
@@ -76,8 +80,8 @@ put-slots-spec =
     loop-holds
     mul-put-session
     add-put-session
-    add-slot
-    slot-requires
+    mul-put-session-2
+    array-copy-out-put-session
     put-session-requires
     add-i
     loop-less

@@ -19,7 +19,7 @@ unfolding bookSessions
 returns c =
     let at-entries = c .before .before .before .before in
     let start = at-entries .before .before .before in
-    c .before .before .put-book .ensures ∙ rw (at-entries .entries .ensures, start .pre .vehicles, start .pre .connectors)
+    c .before .before .put-book .ensures ∙ rw (at-entries .entries .ensures .0, start .pre .vehicles, start .pre .connectors)
 
 pub write-book-spec : {M : Type 1} → statement M
 write-book-spec = tie.close (tie.spec entries-requires put-book-requires same-length returns)

@@ -8,14 +8,15 @@ use lib.ListN.{length, take, length-set}
 use Rattle.charger.specs.Vehicle.{listed}
 use Rattle.charger.proofs.Part.{length-mapped}
 use Rattle.files.specs.Fields.{chargerCount}
-use Rattle.files.specs.BookSession.{entry}
+use Rattle.files.specs.BookSession.{entry, emptyFrom}
 use Rattle.files.proofs.SearchLaws.{map-step}
+use Rattle.files.proofs.BookLaws.{empty-start, empty-set}
 use Rattle.files.proofs.book_session.entries.Statement.{statement}
 use Rattle.files.proofs.book_session.entries.Tie as tie
 
 abbrev Inv-loop : tie.InvT-loop
 Inv-loop plan vehicles rows n xs all₀ i₀ all i =
-    (i ≤ n) × ((length all ≡ 64) × (take i all ≡ map (entry plan (listed vehicles) (take (chargerCount plan) rows)) (take i xs)))
+    (i ≤ n) × ((length all ≡ 65) × ((take i all ≡ map (entry plan (listed vehicles) (take (chargerCount plan) rows)) (take i xs)) × emptyFrom i all))
 
 abbrev μ-loop : tie.MeasureT-loop
 μ-loop plan vehicles rows n xs all₀ i₀ all i = n - i
@@ -27,7 +28,7 @@ no-session-requires : tie.Need-no-session-requires Inv-loop μ-loop
 no-session-requires c κs = search needs
 
 loop-holds : tie.Need-loop-holds Inv-loop μ-loop
-loop-holds c = (omega arith, (refl, refl))
+loop-holds c = (omega arith, (refl, (refl, empty-start 65 _ (c .no-session .ensures))))
 
 mul-entry : tie.Need-mul-entry Inv-loop μ-loop
 mul-entry c = omega arith
@@ -55,7 +56,7 @@ loop-again c =
     let at-loop = c .before .before .before in
     let a = at-loop .before .before .before .before .args in
     let size = long (at-loop .before .before .before .before) in
-    (omega arith, (simp length-set (at-loop .loop .inv .1 .0), map-step (entry (a .plan .now) (listed (a .vehicles)) (take (chargerCount (a .plan .now)) (a .rows))) (a .sessions .all) (at-loop .loop .all) (at-loop .loop .i) _ _ (omega arith) (omega arith) (at-loop .loop .inv .1 .1) (c .entry .ensures)))
+    (omega arith, (simp length-set (at-loop .loop .inv .1 .0), (map-step (entry (a .plan .now) (listed (a .vehicles)) (take (chargerCount (a .plan .now)) (a .rows))) (a .sessions .all) (at-loop .loop .all) (at-loop .loop .i) _ _ (omega arith) (omega arith) (at-loop .loop .inv .1 .1 .0) (c .entry .ensures), empty-set (at-loop .loop .i) (at-loop .loop .all) _ (at-loop .loop .inv .1 .1 .1))))
 
 returns : tie.Need-returns Inv-loop μ-loop
 returns c =

@@ -6,9 +6,10 @@ use native.Mathlib.Omega.{arith}
 use borrow.Author.Needs.{needs}
 use lib.ListN.{length, take}
 use lib.Seq.{length-take-le}
-use Rattle.charger.specs.Vehicle.{listed}
+use Rattle.charger.specs.Vehicle.{listed, noVehicle}
 use Rattle.charger.proofs.Part.{length-mapped}
 use Rattle.engine.specs.Code.{planOf}
+use Rattle.engine.proofs.At.{at-inside}
 use Rattle.files.specs.Search.{first}
 use Rattle.files.specs.Pairs.{failsSomewhere, failingCharger}
 use Rattle.files.proofs.PairLaws.{pair-met, pair-passed, pair-none}
@@ -23,30 +24,39 @@ Inv-loop site rows curves lens vehicles chargers count n v₀ v =
 abbrev μ-loop : tie.MeasureT-loop
 μ-loop site rows curves lens vehicles chargers count n v₀ v = site .vehicles .len - v
 
+-- the list's array has 64 places
+places : (c : tie.At-loop Inv-loop μ-loop) → length (c .before .before .before .before .args .site .vehicles .all) ≡ 64
+places c = search (needs, length-mapped)
+
 -- how many vehicles and chargers there are
 counts : (c : tie.At-loop Inv-loop μ-loop)
     → (length (listed (c .before .before .before .before .args .site .vehicles)) ≡ c .before .before .before .before .args .site .vehicles .len)
     × (length (take (c .before .before .before .before .args .site .count) (c .before .before .before .before .args .site .chargers)) ≡ c .before .before .before .before .args .site .count)
 counts c =
     let site = c .before .before .before .before .args .site in
-    let vehicles : length (site .vehicles .all) ≡ 64 = search (needs, length-mapped) in
+    let vehicles = places c in
     let chargers : length (site .chargers) ≡ 32 = search (needs, length-mapped) in
     (length-take-le (site .vehicles .len) (site .vehicles .all) (omega arith), length-take-le (site .count) (site .chargers) (omega arith))
 
 -- the charger that is found in a turn
 found : (c : tie.After-failing-charger Inv-loop μ-loop)
     → c .failing-charger .result
-    ≡ failingCharger (planOf (c .before .before .before .before .before .before .before .before .before .args .site) (c .before .before .before .before .before .before .before .before .before .args .rows) (c .before .before .before .before .before .before .before .before .before .args .curves .now) (c .before .before .before .before .before .before .before .before .before .args .lens .now)) (c .before .before .before .before .before .loop .v)
+    ≡ failingCharger (planOf (c .before .before .before .before .before .before .before .before .before .before .args .site) (c .before .before .before .before .before .before .before .before .before .before .args .rows) (c .before .before .before .before .before .before .before .before .before .before .args .curves .now) (c .before .before .before .before .before .before .before .before .before .before .args .lens .now)) (c .before .before .before .before .before .before .loop .v)
 unfolding failingCharger
 found c =
-    let at-vehicle = c .before .before .before in
-    c .failing-charger .ensures ∙ rw (counts (at-vehicle .before .before) .1, c .before .before .profile-curve .ensures, c .before .battery-of .ensures, at-vehicle .get-vehicle .ensures)
+    let at-loop = c .before .before .before .before .before .before in
+    let vehicles = at-loop .before .before .before .before .args .site .vehicles in
+    let long = places at-loop in
+    c .failing-charger .ensures ∙ rw (counts at-loop .1, c .before .before .before .profile-curve .ensures, c .before .battery-of .ensures, at-inside (vehicles .all) (vehicles .len) (at-loop .loop .v) _ noVehicle (omega arith) (omega arith))
 
 loop-holds : tie.Need-loop-holds Inv-loop μ-loop
 loop-holds c = (omega arith, rw sub-zero)
 
-get-vehicle-requires : tie.Need-get-vehicle-requires Inv-loop μ-loop
-get-vehicle-requires c κs = search needs
+mul-vehicle : tie.Need-mul-vehicle Inv-loop μ-loop
+mul-vehicle c = search needs
+
+element-copy-out-vehicle : tie.Need-element-copy-out-vehicle Inv-loop μ-loop
+element-copy-out-vehicle c = search needs
 
 profile-curve-requires : tie.Need-profile-curve-requires Inv-loop μ-loop
 profile-curve-requires c κs = search needs
@@ -59,7 +69,7 @@ failing-charger-requires c κs = omega arith
 
 returns : tie.Need-returns Inv-loop μ-loop
 returns c =
-    let at-loop = c .before .before .before .before .before .before in
+    let at-loop = c .before .before .before .before .before .before .before in
     let a = at-loop .before .before .before .before .args in
     let p = planOf (a .site) (a .rows) (a .curves .now) (a .lens .now) in
     let sizes = counts at-loop in
@@ -73,7 +83,7 @@ loop-less c = omega arith
 
 loop-again : tie.Need-loop-again Inv-loop μ-loop
 loop-again c =
-    let at-loop = c .before .before .before .before .before .before in
+    let at-loop = c .before .before .before .before .before .before .before in
     let a = at-loop .before .before .before .before .args in
     let p = planOf (a .site) (a .rows) (a .curves .now) (a .lens .now) in
     let sizes = counts at-loop in
@@ -94,7 +104,8 @@ failing-pair-spec =
     Inv-loop
     μ-loop
     loop-holds
-    get-vehicle-requires
+    mul-vehicle
+    element-copy-out-vehicle
     profile-curve-requires
     battery-of-requires
     failing-charger-requires

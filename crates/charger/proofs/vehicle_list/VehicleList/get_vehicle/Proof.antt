@@ -1,11 +1,10 @@
 -- `vehicle_list::VehicleList::get_vehicle` meets its contract. Inside the list the default says nothing, and past its end it is what is returned. Assumes nothing.
 use mathlib.Core.Path.{_≡_, sym, _∙_}
+use mathlib.Core.Logic.{⊎-elim}
 use borrow.Author.Needs.{needs}
 use native.Mathlib.Omega.{arith}
 use lib.ListN.{length, take, length-take, List·getD-eq-default}
-use lib.Ieee.{ofBits}
 use lib.Seq.{getD-take}
-use Rattle.curve.specs.F64.{ratio}
 use Rattle.charger.proofs.Part.{getD-any, length-mapped}
 use Rattle.charger.proofs.vehicle_list.VehicleList.get_vehicle.Statement.{statement}
 use Rattle.charger.proofs.vehicle_list.VehicleList.get_vehicle.Tie as tie
@@ -22,20 +21,17 @@ returns c =
     let long : length (a .self .all) ≡ 64 = search (needs, length-mapped) in
     getD-any (a .self .all) (a .v) _ _ (omega arith) ∙ sym (getD-take (a .self .len) (a .self .all) (a .v) _ (omega arith))
 
-returns-2 : tie.Need-returns-2
-unfolding ofBits ratio
-returns-2 c =
-    let a = c .before .before .before .args in
-    let long : length (a .self .all) ≡ 64 = search (needs, length-mapped) in
-    sym (List·getD-eq-default (take (a .self .len) (a .self .all)) _ {n = a .v} (simp length-take (omega arith)))
+no-vehicle-requires : tie.Need-no-vehicle-requires
+no-vehicle-requires c κs = search needs
 
-returns-3 : tie.Need-returns-3
-unfolding ofBits ratio
-returns-3 c =
-    let a = c .before .before .args in
+returns-2 : tie.Need-returns-2
+returns-2 c =
+    let joined = c .before in
+    let a = joined .before .before .args in
     let long : length (a .self .all) ≡ 64 = search (needs, length-mapped) in
-    sym (List·getD-eq-default (take (a .self .len) (a .self .all)) _ {n = a .v} (simp length-take (omega arith)))
+    c .no-vehicle .ensures
+    ∙ sym (List·getD-eq-default (take (a .self .len) (a .self .all)) _ {n = a .v} (simp length-take (⊎-elim (λ w. omega arith) (λ w. omega arith) (joined .if1 .came))))
 
 pub get-vehicle-spec : {M : Type 1} → statement M
 get-vehicle-spec =
-    tie.close (tie.spec mul-result array-copy-out-result returns returns-2 returns-3)
+    tie.close (tie.spec mul-result array-copy-out-result returns no-vehicle-requires returns-2)
