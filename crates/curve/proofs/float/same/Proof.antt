@@ -18,10 +18,13 @@ to-bits-requires-2 : tie.Need-to-bits-requires-2
 to-bits-requires-2 c κs = search needs
 
 returns : tie.Need-returns
-returns c same =
+returns c =
     let s = c .before .before in
-    let bits = sym (c .before .to-bits .ensures) ∙ eqb-true _ _ same ∙ c .to-bits2 .ensures in
-    sym (back (s .args .a) (s .good .0 .1)) ∙ ap (ofBits binary64) bits ∙ back (s .args .b) (s .good .1 .0 .1)
+    let first = c .before .to-bits .ensures in
+    let second = c .to-bits2 .ensures in (
+      rw (first, second),
+      λ same. sym (back (s .args .a) (s .good .0 .1)) ∙ ap (ofBits binary64) (sym first ∙ eqb-true _ _ same ∙ second) ∙ back (s .args .b) (s .good .1 .0 .1),
+    )
 
 pub same-spec : {M : Type 1} → statement M
 same-spec = tie.close (tie.spec to-bits-requires to-bits-requires-2 returns)

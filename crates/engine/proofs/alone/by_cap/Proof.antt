@@ -10,7 +10,7 @@ delivered-requires : tie.Need-delivered-requires
 delivered-requires c κs = search needs
 
 returns : tie.Need-returns
-returns c = rw (c .delivered .ensures, c .before .before .same .ensures (c .before .if1 .taken))
+returns c = rw (c .delivered .ensures, c .before .before .same .ensures .1 (c .before .if1 .taken))
 
 with-cap-requires : tie.Need-with-cap-requires
 with-cap-requires c κs = search needs

@@ -15,7 +15,7 @@ returns c =
     let at-same = c .before .before in
     let s = at-same .before .before in
     let a = s .args in
-    rw (c .progress .ensures) (same-again (a .limit) (a .power) (a .s) (s .pre (at-same .before .if1 .taken)) (at-same .same .ensures (c .before .if2 .taken)))
+    rw (c .progress .ensures) (same-again (a .limit) (a .power) (a .s) (s .pre (at-same .before .if1 .taken)) (at-same .same .ensures .1 (c .before .if2 .taken)))
 
 round-requires : tie.Need-round-requires
 round-requires c κs = search needs
