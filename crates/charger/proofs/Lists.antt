@@ -1,13 +1,15 @@
--- Laws of `count` and `All`, and what a search by `first` says of the list.
-use mathlib.Core.Path.{_≡_, refl, ap}
-use mathlib.Core.Bool.{Bool, true, false, cond}
-use mathlib.Core.List.{List, [], _∷_, _++_}
-use Prim.Native.Nat.{ℕ, zero, suc, _+_, _<_}
+-- Laws of tests, of `count` and `All`, and what a search by `first` says of the list.
+use mathlib.Core.Path.{_≡_, refl, sym, ap}
+use mathlib.Core.Bool.{Bool, true, false, cond, _&&_, false≢true}
+use mathlib.Core.List.{List, [], _∷_, _++_, map}
+use Prim.Native.Nat.{ℕ, zero, suc, _+_, _≤_, _<_}
 use native.Mathlib.Nat.{not-suc-le-zero, le-of-suc-le-suc}
 use native.Mathlib.Omega.{arith}
+use borrow.Author.Tests.{eq-eqb, ne-eqb, eqb-true, eqb-false}
+use lib.Dec.{eqb}
 use lib.ListN.{length, getD}
-use Rattle.charger.specs.First.{Found, nobody, found, behind, orElse, first}
-use Rattle.charger.specs.Lists.{count, All, none, also}
+use Rattle.charger.specs.First.{Found, nobody, found, behind, foundOr, first}
+use Rattle.charger.specs.Lists.{tick, count, All, none, also}
 
 -- what holds of both branches holds of the one taken
 pub by-cond : {A : Type 0} (P : A → Type 0) (b : Bool) {x y : A} → P x → P y → P (cond b x y)
@@ -19,10 +21,49 @@ pub by-test : {A : Type 0} (P : A → Type 0) (b : Bool) {x y : A} → (b ≡ tr
 by-test P true h k = h refl
 by-test P false h k = k refl
 
+pub and-true : (a b : Bool) → (a && b) ≡ true → (a ≡ true) × (b ≡ true)
+and-true true b e = (refl, e)
+and-true false b e = absurd (false≢true e)
+
+pub and-both : (a : Bool) {b c : Bool} → (b ≡ true → c ≡ true) → (a && b) ≡ true → (a && c) ≡ true
+and-both true f h = f h
+and-both false f h = h
+
+pub eqb-comm : (a b : ℕ) → eqb a b ≡ eqb b a
+eqb-comm a b = go (eqb b a) refl
+  where
+    go : (t : Bool) → eqb b a ≡ t → eqb a b ≡ t
+    go true e = eq-eqb a b (sym (eqb-true b a e))
+    go false e = ne-eqb a b (λ q. eqb-false b a e (sym q))
+
+pub tick-le : (b : Bool) → tick b ≤ 1
+tick-le true = omega arith
+tick-le false = omega arith
+
+pub count-map : {A B : Type 0} (f : A → B) (test : B → Bool) (l : List A) → count test (map f l) ≡ count (λ (x : A). test (f x)) l
+count-map f test [] = refl
+count-map f test (x ∷ l) = rw (count-map f test l)
+
 module _ {A : Type 0} where
   pub count-append : (test : A → Bool) (s t : List A) → count test (s ++ t) ≡ count test s + count test t
   count-append test [] t = omega arith
   count-append test (x ∷ s) t = omega (arith, count-append test s t)
+
+  pub count-same : (f g : A → Bool) (l : List A) → ((x : A) → f x ≡ g x) → count f l ≡ count g l
+  count-same f g [] h = refl
+  count-same f g (x ∷ l) h = rw (h x, count-same f g l h)
+
+  pub count-le : (f g : A → Bool) (l : List A) → ((x : A) → f x ≡ true → g x ≡ true) → count f l ≤ count g l
+  count-le f g [] h = omega arith
+  count-le f g (x ∷ l) h = go (f x) refl (count-le f g l h)
+    where
+      go : (t : Bool) → f x ≡ t → count f l ≤ count g l → tick t + count f l ≤ tick (g x) + count g l
+      go true e m = rw (h x e) (omega arith)
+      go false e m = omega arith
+
+  pub count-every : (l : List A) → count (λ (x : A). true) l ≡ length l
+  count-every [] = refl
+  count-every (x ∷ l) = omega (arith, count-every l)
 
   pub all-append : {P : A → Type 0} {s t : List A} → All P s → All P t → All P (s ++ t)
   all-append none k = k
@@ -65,7 +106,7 @@ module _ (test : ℕ → Bool) where
   searched-behind x xs e (missed h) = missed (also e h)
   searched-behind x xs e (met s v t h p q) = met (x ∷ s) v t (also e h) p (ap (λ (l : List ℕ). x ∷ l) q)
 
-  searched-orElse : (b : Bool) (x : ℕ) (xs : List ℕ) → test x ≡ b → {f : Found} → Searched test xs f → Searched test (x ∷ xs) (orElse b x xs f)
+  searched-orElse : (b : Bool) (x : ℕ) (xs : List ℕ) → test x ≡ b → {f : Found} → Searched test xs f → Searched test (x ∷ xs) (foundOr b x xs f)
   searched-orElse true x xs e h = met [] x xs none e refl
   searched-orElse false x xs e h = searched-behind x xs e h
 

@@ -1,4 +1,4 @@
--- The power that a charger can give a vehicle.
+-- Rules. The power that a charger can give a vehicle.
 use mathlib.Core.Bool.{Bool}
 use mathlib.Core.List.{List}
 use Prim.Native.Nat.{ℕ}

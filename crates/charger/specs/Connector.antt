@@ -1,4 +1,4 @@
--- Connectors by their codes: 1 Ccs1, 2 Ccs2, 3 Chademo, 4 Gbt, 5 Nacs. A charger's row says for each code, 1 to 5, whether it has that connector.
+-- Rules. Connectors by their codes: 1 Ccs1, 2 Ccs2, 3 Chademo, 4 Gbt, 5 Nacs. A charger's row says for each code, 1 to 5, whether it has that connector.
 use mathlib.Core.Bool.{Bool, true, false, cond, _&&_, _||_}
 use mathlib.Core.List.{List, [], _∷_}
 use Prim.Native.Nat.{ℕ, zero, suc, _-_}
@@ -28,9 +28,9 @@ codesOf zero codes = 5 ∷ []
 codesOf (suc n) codes = take (suc n) codes
 
 -- the same as a vehicle holds them
-abbrev pub connectorsOf : ℕ → List ℕ → Connectors
-connectorsOf zero codes = record { codes = 5 ∷ 0 ∷ 0 ∷ 0 ∷ 0 ∷ []; count = 1 }
-connectorsOf (suc n) codes = record { codes = codes; count = suc n }
+abbrev pub namedConnectors : ℕ → List ℕ → Connectors
+namedConnectors zero codes = record { codes = 5 ∷ 0 ∷ 0 ∷ 0 ∷ 0 ∷ []; count = 1 }
+namedConnectors (suc n) codes = record { codes = codes; count = suc n }
 
 abbrev pub contains : List ℕ → ℕ → Bool
 contains [] k = false

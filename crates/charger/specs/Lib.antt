@@ -4,5 +4,4 @@ pub mod Lists
 pub mod Connector
 pub mod Vehicle
 pub mod Charger
-pub mod Queue
-pub mod Profiles
+pub mod Code

@@ -1,4 +1,4 @@
--- Counting over a list, and "every member".
+-- Rules. Counting over a list, and "every member".
 use mathlib.Core.Bool.{Bool, true, false}
 use mathlib.Core.List.{List, [], _∷_}
 use Prim.Native.Nat.{ℕ, _+_}

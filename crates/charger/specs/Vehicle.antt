@@ -1,4 +1,4 @@
--- Which vehicles fit a charger.
+-- Rules. Which vehicles fit a charger.
 use mathlib.Core.Bool.{Bool}
 use mathlib.Core.List.{List}
 use Prim.Native.Nat.{ℕ}
@@ -6,7 +6,6 @@ use lib.ListN.{getD, take, replicate}
 use Rattle.curve.specs.F64.{ratio}
 use Rattle.charger.specs.declared.connector.Resolved.{Resolved}
 use Rattle.charger.specs.declared.vehicle.Vehicle.{Vehicle}
-use Rattle.charger.specs.declared.vehicle_list.VehicleList.{VehicleList}
 use Rattle.charger.specs.Connector.{resolve, isConnector}
 
 -- the connector that a charger and a vehicle use: the first of the vehicle's that the charger has
@@ -16,9 +15,6 @@ connectorOf row v = resolve row (take (v .count) (v .codes))
 -- a pair fits if it has a connector in common
 unfoldable pub compatible : List Bool → Vehicle → Bool
 compatible row v = isConnector (connectorOf row v)
-
-abbrev pub listed : VehicleList → List Vehicle
-listed l = take (l .len) (l .all)
 
 -- one that fits no charger
 abbrev pub noVehicle : Vehicle

@@ -3,12 +3,12 @@ use curve::charge_profile::Place;
 use curve::charge_profile::place_near;
 ghost use mathlib.Core.Path.{_≡_};
 ghost use lib.Ieee.{le};
-ghost use Rattle.curve.specs.Curve.{points, place};
-ghost use Rattle.curve.specs.Rising.{Rises};
-ghost use Rattle.charger.specs.Profiles.{curveAt};
+ghost use Rattle.curve.specs.Code.Rows.{points, place};
+ghost use Rattle.curve.specs.Code.Rising.{Rises};
+ghost use Rattle.charger.specs.Code.Profiles.{curveAt};
 
 // A byte as a place or a length.
-fn wide(b: u8) -> usize
+pub fn place_of(b: u8) -> usize
     ensures { λ r. ⌜ r ≡ b ⌝ }
 {
     b as usize
@@ -25,7 +25,7 @@ pub fn profile_curve<'a>(curves: &'a [[f64; 2]], lens: &[u8], profile: usize) ->
         return &curves[..0];
     }
     let start = 32 * profile;
-    let end = start + wide(lens[profile]);
+    let end = start + place_of(lens[profile]);
     if curves.len() < end {
         return &curves[..0];
     }
@@ -33,9 +33,9 @@ pub fn profile_curve<'a>(curves: &'a [[f64; 2]], lens: &[u8], profile: usize) ->
 }
 
 // Where `soc` lies on the curve of a profile, which rises: its segment, found at once if it is near the one given, and the power.
-pub fn profile_place(curves: &[[f64; 2]], lens: &[u8], profile: u8, near: usize, soc: f64) -> Place
+pub fn place_on_curve(curves: &[[f64; 2]], lens: &[u8], profile: u8, near: usize, soc: f64) -> Place
     requires { ⌜ Rises le (curveAt (now curves) (now lens) profile) ⌝ }
     ensures { λ r. ⌜ r ≡ place (curveAt (now (curves .entry)) (now (lens .entry)) profile) soc ⌝ }
 {
-    place_near(profile_curve(curves, lens, wide(profile)), near, soc)
+    place_near(profile_curve(curves, lens, place_of(profile)), near, soc)
 }

@@ -1,7 +1,7 @@
 // Connectors by their codes: 1 Ccs1, 2 Ccs2, 3 Chademo, 4 Gbt, 5 Nacs (connector.rs).
 ghost use mathlib.Core.Path.{_≡_};
 ghost use lib.ListN.{take};
-ghost use Rattle.charger.specs.Connector.{hasCode, resolve, contains, rowOf, codesOf, connectorsOf};
+ghost use Rattle.charger.specs.Connector.{hasCode, resolve, contains, rowOf, codesOf, namedConnectors};
 
 // The first of the vehicle's codes that the charger has.
 pub enum Resolved {
@@ -48,7 +48,7 @@ pub struct Connectors {
 
 // The connectors that a block names: count 0 means Nacs alone.
 pub fn connectors_of(codes: [u8; 5], count: usize) -> Connectors
-    ensures { λ r. ⌜ r ≡ connectorsOf count codes ⌝ }
+    ensures { λ r. ⌜ r ≡ namedConnectors count codes ⌝ }
 {
     if count == 0 {
         return Connectors {

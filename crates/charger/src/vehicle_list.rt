@@ -2,7 +2,8 @@
 use crate::vehicle::Vehicle;
 use crate::vehicle::no_vehicle;
 ghost use mathlib.Core.Path.{_≡_};
-ghost use Rattle.charger.specs.Vehicle.{vehicleAt, listed};
+ghost use Rattle.charger.specs.Vehicle.{vehicleAt};
+ghost use Rattle.charger.specs.Code.Vehicles.{listed};
 
 // The first `len` of `all`.
 pub struct VehicleList {

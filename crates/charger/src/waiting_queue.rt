@@ -7,8 +7,9 @@ ghost use Prim.Native.Nat.{_+_, _-_, _≤_, _<_};
 ghost use lib.Dec.{eqb};
 ghost use lib.ListN.{take};
 ghost use Rattle.charger.specs.First.{first};
-ghost use Rattle.charger.specs.Vehicle.{listed, fitsAt};
-ghost use Rattle.charger.specs.Queue.{waiting, seek, without, takenAt, Taken};
+ghost use Rattle.charger.specs.Code.Vehicles.{listed};
+ghost use Rattle.charger.specs.Vehicle.{fitsAt};
+ghost use Rattle.charger.specs.Code.Queue.{waiting, seek, without, takenAt, Taken};
 
 // By their places in the plan, first in, first out: the first `len` of `ids`.
 pub struct WaitingQueue {

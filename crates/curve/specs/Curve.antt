@@ -1,28 +1,16 @@
--- The charge curve: power as a function of SOC, and what charging from one SOC to another takes.
+-- Rules. The charge curve: power as a function of SOC, and what charging from one SOC to another takes.
 use mathlib.Core.Bool.{cond, _||_}
-use mathlib.Core.List.{List, [], _∷_, _++_, map}
-use Prim.Native.Nat.{ℕ, zero, suc, _+_}
+use mathlib.Core.List.{List, [], _∷_}
+use Prim.Native.Nat.{ℕ, zero, suc}
 use lib.Dec.{ltb}
-use lib.ListN.{length, getD, take, drop}
-use lib.Ieee.{Float, nan, lt, le}
+use lib.ListN.{length, getD}
+use lib.Ieee.{Float, lt, le}
 use Rattle.curve.specs.F64.{_⊕_, _⊖_, _⊗_, _⊘_, ratio, least, greatest}
 use Rattle.curve.specs.declared.units.Kw.{Kw}
-use Rattle.curve.specs.declared.charge_profile.Point.{Point}
+use Rattle.curve.specs.declared.points.Point.{Point}
 use Rattle.curve.specs.declared.units.Kwh.{Kwh}
 use Rattle.curve.specs.declared.charge_profile.Charge.{Charge}
 use Rattle.curve.specs.declared.charge_profile.ChargingOutput.{ChargingOutput}
-use Rattle.curve.specs.declared.charge_profile.Place.{Place}
-use Rattle.curve.specs.declared.charge_profile.Walk.{Walk}
-
--- a row of a curve, SOC and power, as a point
-abbrev pub point : List Float → Point
-point r = record { soc = getD r 0 nan; power = record { 0 = getD r 1 nan } }
-
-abbrev pub row : Point → List Float
-row p = p .soc ∷ p .power .0 ∷ []
-
-abbrev pub points : List (List Float) → List Point
-points l = map point l
 
 -- SOC 0 and no power
 abbrev pub origin : Point
@@ -37,11 +25,6 @@ unfoldable pub reached : Float → List Point → ℕ
 reached s [] = 0
 reached s (p ∷ ps) = cond (lt s (p .soc)) 0 (suc (reached s ps))
 
--- how many points, from the first, have a SOC at or below s, by the test of `through` for a segment's end
-unfoldable pub passed : Float → List Point → ℕ
-passed s [] = 0
-passed s (p ∷ ps) = cond (le (p .soc) s) (suc (passed s ps)) 0
-
 -- the power at SOC s where that many are: below the first point its power, at or past the last its power
 unfoldable pub powerAfter : List Point → Float → ℕ → Kw
 unfolding ratio
@@ -53,9 +36,9 @@ unfoldable pub powerAt : List Point → Float → Kw
 unfolding reached powerAfter
 powerAt ps s = powerAfter ps s (reached s ps)
 
--- the place of SOC s on a curve
-abbrev pub place : List Point → Float → Place
-place ps s = record { segment = reached s ps; power = powerAt ps s }
+-- the average power over a part of a segment: the powers at its two ends are each capped, then averaged
+abbrev pub average : Kw → Kw → Kw → Kw
+average a b cap = record { 0 = ratio 1 2 ⊗ (least (a .0) (cap .0) ⊕ least (b .0) (cap .0)) }
 
 module _ (curve : List Point) (battery : Kwh) (target : Float) (cap : Kw) where
   -- charging over the part of the segment from p to q that lies between the SOC reached and the target
@@ -64,7 +47,7 @@ module _ (curve : List Point) (battery : Kwh) (target : Float) (cap : Kw) where
       let s = greatest (c .soc) (p .soc) in
       let e = least target (q .soc) in
       let energy = (e ⊖ s) ⊗ battery .0 in
-      let mean = ratio 1 2 ⊗ (least (powerAt curve s .0) (cap .0) ⊕ least (powerAt curve e .0) (cap .0)) in
+      let mean = average (powerAt curve s) (powerAt curve e) cap .0 in
       record {
         soc = e;
         output = record {
@@ -84,10 +67,6 @@ module _ (curve : List Point) (battery : Kwh) (target : Float) (cap : Kw) where
   unfolding through
   along p [] c = c
   along p (q ∷ qs) c = along q qs (through p q c)
-
--- a charge with the place of the SOC reached
-abbrev pub walk : List Point → Charge → Walk
-walk ps c = record { charge = c; place = place ps (c .soc) }
 
 -- duration, energy and peak all zero
 abbrev pub nothing : ChargingOutput
@@ -136,7 +115,3 @@ withEnd (p ∷ q ∷ qs) = p ∷ withEnd (q ∷ qs)
 unfoldable pub curveOf : List Point → List Point
 unfolding sortInto withStart withEnd
 curveOf ps = withEnd (withStart (sortInto [] ps))
-
--- x put in front of the first n rows, which move up by one
-abbrev pub putFirst : List (List Float) → ℕ → List Float → List (List Float)
-putFirst l n x = x ∷ (take n l ++ drop (n + 1) l)

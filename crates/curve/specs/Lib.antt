@@ -2,5 +2,4 @@
 pub mod F64
 pub mod Limits
 pub mod Curve
-pub mod Rising
-pub mod Cases
+pub mod Code

@@ -1,7 +1,11 @@
 // A vehicle's charge profile: power as a function of battery SOC (state of charge, 0 to 1).
 use crate::float::max;
 use crate::float::min;
-use crate::points::segment_in;
+use crate::points::Point;
+use crate::points::point_at;
+use crate::points::reached_by_points;
+use crate::points::reached_from;
+use crate::points::reached_near;
 use crate::units::Kw;
 use crate::units::Kwh;
 use crate::units::Seconds;
@@ -12,13 +16,8 @@ ghost use lib.ListN.{length, getD, drop};
 ghost use lib.Ieee.{le};
 ghost use Rattle.curve.specs.F64.{greatest};
 ghost use Rattle.curve.specs.Curve as Curve;
-ghost use Rattle.curve.specs.Rising.{Rises};
-
-// A point of the curve.
-pub struct Point {
-    pub soc: f64,
-    pub power: Kw,
-}
+ghost use Rattle.curve.specs.Code.Rows as Rows;
+ghost use Rattle.curve.specs.Code.Rising.{Rises};
 
 // What charging takes: seconds, energy, and the largest average power of a segment.
 pub struct ChargingOutput {
@@ -35,7 +34,7 @@ pub struct Charge {
 
 // Where a SOC lies on a curve: how many points, from the first, are at or below it, and the power there.
 pub struct Place {
-    pub segment: usize,
+    pub reached: usize,
     pub power: Kw,
 }
 
@@ -52,83 +51,10 @@ pub fn between(p: Point, q: Point, soc: f64) -> Kw
     Kw(p.power.0 + (soc - p.soc) * (q.power.0 - p.power.0) / (q.soc - p.soc))
 }
 
-// A curve is a slice of rows, each a point's SOC and power, by rising SOC.
-
-// The point in row i.
-pub fn point_at(curve: &[[f64; 2]], i: usize) -> Point
-    requires { ⌜ i < length (now curve) ⌝ }
-    ensures { λ r. ⌜ r ≡ Curve.point (getD (now (curve .entry)) i []) ⌝ }
-{
-    Point {
-        soc: curve[i][0],
-        power: Kw(curve[i][1]),
-    }
-}
-
-// How many points, from the first, are at or below `soc`, where the first i are.
-fn segment_from(curve: &[[f64; 2]], i: usize, soc: f64) -> usize
-    requires { ⌜ i ≤ length (now curve) ⌝ }
-    ensures bounded { λ r. ⌜ r ≤ length (now (curve .entry)) ⌝ }
-    ensures found { λ r. ⌜ r ≡ i + Curve.reached soc (Curve.points (drop i (now (curve .entry)))) ⌝ }
-{
-    let mut j = i;
-    while j < curve.len() {
-        if soc < curve[j][0] {
-            return j;
-        }
-        j += 1;
-    }
-    j
-}
-
-// How many points, from the first, are at or below `soc`.
-pub fn segment(curve: &[[f64; 2]], soc: f64) -> usize
-    ensures bounded { λ r. ⌜ r ≤ length (now (curve .entry)) ⌝ }
-    ensures found { λ r. ⌜ r ≡ Curve.reached soc (Curve.points (now (curve .entry))) ⌝ }
-{
-    segment_from(curve, 0, soc)
-}
-
-// The same where the points rise: by halves until at most eight points are left, and then one by one.
-pub fn segment_rising(curve: &[[f64; 2]], soc: f64) -> usize
-    requires { ⌜ Rises le (Curve.points (now curve)) ⌝ }
-    ensures bounded { λ r. ⌜ r ≤ length (now (curve .entry)) ⌝ }
-    ensures found { λ r. ⌜ r ≡ Curve.reached soc (Curve.points (now (curve .entry))) ⌝ }
-{
-    let mut passed = 0;
-    let mut left = curve.len();
-    while 8 < left {
-        let half = left / 2;
-        if !(soc < curve[passed + half][0]) {
-            passed += half;
-        }
-        left -= half;
-    }
-    segment_from(curve, passed, soc)
-}
-
-// The same, at once where `near` of the points, and at most a few more, are at or below `soc`.
-pub fn segment_near(curve: &[[f64; 2]], near: usize, soc: f64) -> usize
-    requires { ⌜ Rises le (Curve.points (now curve)) ⌝ }
-    ensures bounded { λ r. ⌜ r ≤ length (now (curve .entry)) ⌝ }
-    ensures found { λ r. ⌜ r ≡ Curve.reached soc (Curve.points (now (curve .entry))) ⌝ }
-{
-    if near == 0 {
-        return segment_rising(curve, soc);
-    }
-    if curve.len() < near {
-        return segment_rising(curve, soc);
-    }
-    if soc < curve[near - 1][0] {
-        return segment_rising(curve, soc);
-    }
-    segment_from(curve, near, soc)
-}
-
 // The power at `soc` if i points are at or below it.
 fn power_after(curve: &[[f64; 2]], i: usize, soc: f64) -> Kw
     requires { ⌜ i ≤ length (now curve) ⌝ }
-    ensures { λ r. ⌜ r ≡ Curve.powerAfter (Curve.points (now (curve .entry))) soc i ⌝ }
+    ensures { λ r. ⌜ r ≡ Curve.powerAfter (Rows.points (now (curve .entry))) soc i ⌝ }
 {
     let n = curve.len();
     if n == 0 {
@@ -145,57 +71,57 @@ fn power_after(curve: &[[f64; 2]], i: usize, soc: f64) -> Kw
 
 // The power at `soc`.
 pub fn power_at(curve: &[[f64; 2]], soc: f64) -> Kw
-    ensures { λ r. ⌜ r ≡ Curve.powerAt (Curve.points (now (curve .entry))) soc ⌝ }
+    ensures { λ r. ⌜ r ≡ Curve.powerAt (Rows.points (now (curve .entry))) soc ⌝ }
 {
-    power_after(curve, segment_in(curve, soc), soc)
+    power_after(curve, reached_by_points(curve, soc), soc)
 }
 
-// The place of `soc` where the points rise and it is near the segment `near`.
+// The place of `soc` where the points rise and `near` of them, and at most a few more, are at or below it.
 pub fn place_near(curve: &[[f64; 2]], near: usize, soc: f64) -> Place
-    requires { ⌜ Rises le (Curve.points (now curve)) ⌝ }
-    ensures { λ r. ⌜ r ≡ Curve.place (Curve.points (now (curve .entry))) soc ⌝ }
+    requires { ⌜ Rises le (Rows.points (now curve)) ⌝ }
+    ensures { λ r. ⌜ r ≡ Rows.place (Rows.points (now (curve .entry))) soc ⌝ }
 {
-    let segment = segment_near(curve, near, soc);
+    let reached = reached_near(curve, near, soc);
     Place {
-        segment,
-        power: power_after(curve, segment, soc),
+        reached,
+        power: power_after(curve, reached, soc),
     }
 }
 
 // The place of `soc`, where the first i points are at or below it.
 fn locate_from(curve: &[[f64; 2]], i: usize, soc: f64) -> Place
-    requires { ⌜ i ≤ Curve.reached soc (Curve.points (now curve)) ⌝ }
-    ensures { λ r. ⌜ r ≡ Curve.place (Curve.points (now (curve .entry))) soc ⌝ }
+    requires { ⌜ i ≤ Curve.reached soc (Rows.points (now curve)) ⌝ }
+    ensures { λ r. ⌜ r ≡ Rows.place (Rows.points (now (curve .entry))) soc ⌝ }
 {
-    let segment = segment_from(curve, i, soc);
+    let reached = reached_from(curve, i, soc);
     Place {
-        segment,
-        power: power_after(curve, segment, soc),
+        reached,
+        power: power_after(curve, reached, soc),
     }
 }
 
 // The place of `soc`.
 fn locate(curve: &[[f64; 2]], soc: f64) -> Place
-    ensures { λ r. ⌜ r ≡ Curve.place (Curve.points (now (curve .entry))) soc ⌝ }
+    ensures { λ r. ⌜ r ≡ Rows.place (Rows.points (now (curve .entry))) soc ⌝ }
 {
     locate_from(curve, 0, soc)
 }
 
 // The place of `to` from that of `from`. Upward the search goes on where the last one ended.
 fn onward(curve: &[[f64; 2]], from: f64, place: Place, to: f64) -> Place
-    requires { ⌜ place ≡ Curve.place (Curve.points (now curve)) from ⌝ }
-    ensures { λ r. ⌜ r ≡ Curve.place (Curve.points (now (curve .entry))) to ⌝ }
+    requires { ⌜ place ≡ Rows.place (Rows.points (now curve)) from ⌝ }
+    ensures { λ r. ⌜ r ≡ Rows.place (Rows.points (now (curve .entry))) to ⌝ }
 {
     if from <= to {
-        return locate_from(curve, place.segment, to);
+        return locate_from(curve, place.reached, to);
     }
     locate(curve, to)
 }
 
 // The place of the larger of `soc` and `start`, from that of `soc`.
 fn from_start(curve: &[[f64; 2]], soc: f64, place: Place, start: f64) -> Place
-    requires { ⌜ place ≡ Curve.place (Curve.points (now curve)) soc ⌝ }
-    ensures { λ r. ⌜ r ≡ Curve.place (Curve.points (now (curve .entry))) (greatest soc start) ⌝ }
+    requires { ⌜ place ≡ Rows.place (Rows.points (now curve)) soc ⌝ }
+    ensures { λ r. ⌜ r ≡ Rows.place (Rows.points (now (curve .entry))) (greatest soc start) ⌝ }
 {
     if soc != soc {
         return locate(curve, start);
@@ -206,10 +132,20 @@ fn from_start(curve: &[[f64; 2]], soc: f64, place: Place, start: f64) -> Place
     place
 }
 
+// The average power over a part of a segment: the powers at its two ends are each capped, then averaged.
+fn average(a: Kw, b: Kw, cap: Kw) -> Kw
+    ensures { λ r. ⌜ r ≡ Curve.average a b cap ⌝ }
+{
+    let first = a.0;
+    let last = b.0;
+    let most = cap.0;
+    Kw(0.5 * (min(first, most) + min(last, most)))
+}
+
 // Charging over the part of the segment from p to q between the SOC reached and the target.
 fn part(curve: &[[f64; 2]], battery: Kwh, target: f64, cap: Kw, p: Point, q: Point, w: Walk) -> Walk
-    requires { ⌜ w ≡ Curve.walk (Curve.points (now curve)) (w .charge) ⌝ }
-    ensures { λ r. ⌜ r ≡ Curve.walk (Curve.points (now (curve .entry))) (Curve.part (Curve.points (now (curve .entry))) battery target cap p q (w .charge)) ⌝ }
+    requires { ⌜ w ≡ Rows.walk (Rows.points (now curve)) (w .charge) ⌝ }
+    ensures { λ r. ⌜ r ≡ Rows.walk (Rows.points (now (curve .entry))) (Curve.part (Rows.points (now (curve .entry))) battery target cap p q (w .charge)) ⌝ }
 {
     let c = w.charge;
     let s = max(c.soc, p.soc);
@@ -217,7 +153,7 @@ fn part(curve: &[[f64; 2]], battery: Kwh, target: f64, cap: Kw, p: Point, q: Poi
     let first = from_start(curve, c.soc, w.place, p.soc);
     let place = onward(curve, s, first, e);
     let energy = (e - s) * battery.0;
-    let mean = 0.5 * (min(first.power.0, cap.0) + min(place.power.0, cap.0));
+    let mean = average(first.power, place.power, cap).0;
     Walk {
         charge: Charge {
             soc: e,
@@ -241,8 +177,8 @@ fn through(
     q: Point,
     w: Walk,
 ) -> Walk
-    requires { ⌜ w ≡ Curve.walk (Curve.points (now curve)) (w .charge) ⌝ }
-    ensures { λ r. ⌜ r ≡ Curve.walk (Curve.points (now (curve .entry))) (Curve.through (Curve.points (now (curve .entry))) battery target cap p q (w .charge)) ⌝ }
+    requires { ⌜ w ≡ Rows.walk (Rows.points (now curve)) (w .charge) ⌝ }
+    ensures { λ r. ⌜ r ≡ Rows.walk (Rows.points (now (curve .entry))) (Curve.through (Rows.points (now (curve .entry))) battery target cap p q (w .charge)) ⌝ }
 {
     if target <= w.charge.soc {
         return w;
@@ -256,7 +192,7 @@ fn through(
 // How many points, from the first, have a SOC at or below `soc`, by the test that a segment is skipped for.
 fn passed(curve: &[[f64; 2]], soc: f64) -> usize
     ensures bounded { λ r. ⌜ r ≤ length (now (curve .entry)) ⌝ }
-    ensures found { λ r. ⌜ r ≡ Curve.passed soc (Curve.points (now (curve .entry))) ⌝ }
+    ensures found { λ r. ⌜ r ≡ Rows.passed soc (Rows.points (now (curve .entry))) ⌝ }
 {
     let mut i = 0;
     while i < curve.len() {
@@ -276,7 +212,7 @@ pub fn integrate_over(
     target: f64,
     cap: Kw,
 ) -> ChargingOutput
-    ensures { λ r. ⌜ r ≡ Curve.integrateOver (Curve.points (now (curve .entry))) battery start target cap ⌝ }
+    ensures { λ r. ⌜ r ≡ Curve.integrateOver (Rows.points (now (curve .entry))) battery start target cap ⌝ }
 {
     let none = ChargingOutput {
         duration: Seconds(0.0),

@@ -1,6 +1,6 @@
--- One round at one charger.
+-- Rules. One round at one charger.
 use mathlib.Core.Bool.{Bool, true, false, cond}
-use lib.Ieee.{Float, lt, le}
+use lib.Ieee.{Float, le}
 use Rattle.curve.specs.F64.{_⊕_, _⊖_, _⊗_, _⊘_, ratio, least, greatest}
 use Rattle.curve.specs.declared.units.Kw.{Kw}
 use Rattle.engine.specs.declared.charger_state.Status.{Status}
@@ -32,6 +32,7 @@ empty =
     let zero = ratio 0 1 in
     record {
       status = Free;
+      vehicle = 0;
       profile = 0;
       session = 0;
       soc = zero;
@@ -57,6 +58,7 @@ abbrev pub withRequest : Kw → ChargerState → ChargerState
 withRequest r s =
     record {
       status = s .status;
+      vehicle = s .vehicle;
       profile = s .profile;
       session = s .session;
       soc = s .soc;
@@ -74,6 +76,7 @@ abbrev pub withCap : Kw → ChargerState → ChargerState
 withCap c s =
     record {
       status = s .status;
+      vehicle = s .vehicle;
       profile = s .profile;
       session = s .session;
       soc = s .soc;
@@ -86,11 +89,6 @@ withCap c s =
       energy = s .energy;
       peak = s .peak;
     }
-
--- the power cap, scaled by `factor` if that is below 1
-unfoldable pub capped : Float → ChargerState → ChargerState
-unfolding ratio
-capped factor s = withCap (cond (lt factor (ratio 1 1)) (record { 0 = draw s ⊗ factor }) (s .rated)) s
 
 abbrev pub chargingUntil : Float → Float → Status
 chargingUntil target soc = cond (le target soc) Idle Charging
@@ -105,6 +103,7 @@ delivered power s =
     let soc = s .soc ⊕ energy ⊘ s .battery .0 in
     record {
       status = chargingUntil (s .target) soc;
+      vehicle = s .vehicle;
       profile = s .profile;
       session = s .session;
       soc = soc;
@@ -119,17 +118,18 @@ delivered power s =
     }
 
 -- a round of charging
-unfoldable pub charged : ChargerState → ChargerState
+unfoldable pub afterCharging : ChargerState → ChargerState
 unfolding ratio
-charged s = delivered (least (s .requested .0) (s .cap .0)) s
+afterCharging s = delivered (least (s .requested .0) (s .cap .0)) s
 
 -- a round of standing idle: finished once no idle time is left
-unfoldable pub idled : ChargerState → ChargerState
+unfoldable pub afterIdling : ChargerState → ChargerState
 unfolding ratio
-idled s =
+afterIdling s =
     let left = s .idle .0 ⊖ ratio 1 1 in
     record {
       status = idleUntil left;
+      vehicle = s .vehicle;
       profile = s .profile;
       session = s .session;
       soc = s .soc;
@@ -145,8 +145,8 @@ idled s =
 
 abbrev pub progressBy : Status → ChargerState → ChargerState
 progressBy Free s = s
-progressBy Charging s = charged s
-progressBy Idle s = idled s
+progressBy Charging s = afterCharging s
+progressBy Idle s = afterIdling s
 progressBy Finished s = s
 
 abbrev pub progress : ChargerState → ChargerState

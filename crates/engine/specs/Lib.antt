@@ -5,10 +5,6 @@ pub mod SiteState
 pub mod Discrete
 pub mod ChargerState
 pub mod Power
-pub mod Alone
-pub mod Bank
 pub mod Timestep
 pub mod Demand
-pub mod Cases
 pub mod Code
-pub mod Steps

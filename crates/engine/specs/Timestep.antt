@@ -1,4 +1,4 @@
--- The run by steps, as document 01 has it: a round is the events due, the power, the progress, the freed chargers.
+-- Rules. The run by steps, as document 01 has it: a round is the events due, the power, the progress, the freed chargers.
 use mathlib.Core.Bool.{Bool, true, cond, _&&_}
 use mathlib.Core.List.{List, [], _∷_}
 use Prim.Native.Nat.{ℕ, zero, suc, _+_, _-_}
@@ -10,7 +10,7 @@ use Rattle.curve.specs.F64.{_⊖_, ratio}
 use Rattle.engine.specs.declared.events.Event.{Event}
 use Rattle.engine.specs.declared.session.Session.{Session}
 use Rattle.engine.specs.declared.session.Outcome.the-variants.{Open, Charged}
-use Rattle.engine.specs.Plan.{Plan, vehicle, rated}
+use Rattle.engine.specs.Plan.{Time, VehiclePlace, ChargerPlace, Plan, vehicle, rated}
 use Rattle.engine.specs.SiteState.{Engine, SiteState, isEmpty, uncharged, initial, popped, release}
 use Rattle.engine.specs.declared.charger_state.Status.the-variants.{Charging}
 use Rattle.engine.specs.declared.charger_state.ChargerState.{ChargerState}
@@ -19,10 +19,10 @@ use Rattle.engine.specs.Power.{charge}
 
 pub record State : Type 0 where
   pub site : SiteState ChargerState
-  pub time : ℕ
+  pub time : Time
 
 -- `finalize`
-unfoldable pub finalized : ℕ → ChargerState → Session → Session
+unfoldable pub finalized : Time → ChargerState → Session → Session
 finalized now s x =
     record {
       vehicle = x .vehicle;
@@ -38,16 +38,16 @@ finalized now s x =
     }
 
 -- the sessions with that of the charger closed, if it is finished
-abbrev pub closedAt : ℕ → ChargerState → List Session → List Session
+abbrev pub closedAt : Time → ChargerState → List Session → List Session
 closedAt now s xs = cond (isFinished (s .status)) (set xs (s .session) (finalized now s (getD xs (s .session) (uncharged 0 Open 0)))) xs
 
 -- and those of all finished chargers
-abbrev pub closed : ℕ → List ChargerState → List Session → List Session
+abbrev pub closed : Time → List ChargerState → List Session → List Session
 closed now [] xs = xs
 closed now (s ∷ ss) xs = closed now ss (closedAt now s xs)
 
 -- the chargers that are finished, from the place c on
-abbrev pub finished : ℕ → List ChargerState → List ℕ
+abbrev pub finished : ChargerPlace → List ChargerState → List ChargerPlace
 finished c [] = []
 finished c (s ∷ ss) = cond (isFinished (s .status)) (c ∷ finished (suc c) ss) (finished (suc c) ss)
 
@@ -55,12 +55,12 @@ abbrev pub allFree : List ChargerState → Bool
 allFree [] = true
 allFree (s ∷ ss) = isFree (s .status) && allFree ss
 
-module _ (t : Plan) where
+module _ (p : Plan) where
   -- the session of a car that was plugged in
-  unfoldable pub started : ℕ → ℕ → ℕ → Session
+  unfoldable pub openSession : Time → VehiclePlace → ChargerPlace → Session
   unfolding ratio
-  started now v c =
-      let x = vehicle t v in
+  openSession now v c =
+      let x = vehicle p v in
       record {
         vehicle = v;
         outcome = Open;
@@ -75,20 +75,21 @@ module _ (t : Plan) where
       }
 
   -- and the charger's state then
-  unfoldable pub plugged : ℕ → ℕ → ℕ → ℕ → ChargerState
+  unfoldable pub plugged : Time → VehiclePlace → ChargerPlace → ℕ → ChargerState
   unfolding ratio
   plugged now v c index =
-      let x = vehicle t v in
+      let x = vehicle p v in
       record {
         status = Charging;
+        vehicle = v;
         profile = x .profile;
         session = index;
         soc = x .start;
         target = x .target;
-        battery = t .battery (x .profile);
-        rated = rated t v c;
+        battery = p .battery (x .profile);
+        rated = rated p v c;
         requested = record { 0 = ratio 0 1 };
-        cap = rated t v c;
+        cap = rated p v c;
         idle = x .idle;
         energy = record { 0 = ratio 0 1 };
         peak = record { 0 = ratio 0 1 };
@@ -99,40 +100,40 @@ module _ (t : Plan) where
       record {
         empty = empty;
         isFree = λ s. isFree (s .status);
-        session = started;
+        session = openSession;
         occupant = plugged;
         pend = λ now v c es. es;
       }
 
   -- every event due at `now` is popped
-  abbrev pub due : ℕ → List Event → SiteState ChargerState → SiteState ChargerState
+  abbrev pub due : Time → List Event → SiteState ChargerState → SiteState ChargerState
   due now [] f = f
-  due now (e ∷ es) f = cond (leb (e .time) now) (due now es (popped t steps e es f)) f
+  due now (e ∷ es) f = cond (leb (e .time) now) (due now es (popped p steps e es f)) f
 
   abbrev pub withPlaces : List ChargerState → SiteState ChargerState → SiteState ChargerState
   withPlaces ss f = record { pending = f .pending; queue = f .queue; places = ss; sessions = f .sessions }
 
   -- the power, then the progress
-  abbrev pub charged : SiteState ChargerState → SiteState ChargerState
-  charged f = withPlaces (charge (t .limit) (t .curve) (f .places)) f
+  abbrev pub powered : SiteState ChargerState → SiteState ChargerState
+  powered f = withPlaces (charge (p .limit) (p .curve) (f .places)) f
 
-  abbrev pub withClosed : ℕ → SiteState ChargerState → SiteState ChargerState
+  abbrev pub withClosed : Time → SiteState ChargerState → SiteState ChargerState
   withClosed now f =
       record { pending = f .pending; queue = f .queue; places = f .places; sessions = closed now (f .places) (f .sessions) }
 
-  abbrev pub releaseAll : ℕ → List ℕ → SiteState ChargerState → SiteState ChargerState
+  abbrev pub releaseAll : Time → List ChargerPlace → SiteState ChargerState → SiteState ChargerState
   releaseAll now [] f = f
-  releaseAll now (c ∷ cs) f = releaseAll now cs (release t steps now c f)
+  releaseAll now (c ∷ cs) f = releaseAll now cs (release p steps now c f)
 
   -- the freed chargers, each with the first fitting vehicle of the queue
-  abbrev pub releaseFinished : ℕ → SiteState ChargerState → SiteState ChargerState
+  abbrev pub releaseFinished : Time → SiteState ChargerState → SiteState ChargerState
   releaseFinished now f = releaseAll now (finished 0 (f .places)) f
 
   unfoldable pub round : State → State
   round s =
       let now = s .time in
       record {
-        site = releaseFinished now (withClosed now (charged (due now (s .site .pending) (s .site))));
+        site = releaseFinished now (withClosed now (powered (due now (s .site .pending) (s .site))));
         time = now + 1;
       }
 
@@ -141,7 +142,7 @@ module _ (t : Plan) where
   ended s = isEmpty (s .site .pending) && (allFree (s .site .places) && isEmpty (s .site .queue))
 
   abbrev pub start : State
-  start = record { site = initial t steps; time = 0 }
+  start = record { site = initial p steps; time = 0 }
 
   -- the state after up to n rounds
   abbrev pub after : ℕ → State → State

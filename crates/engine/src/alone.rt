@@ -6,21 +6,22 @@ use crate::charger_state::is_charging;
 use crate::charger_state::is_finished;
 use crate::charger_state::is_free;
 use crate::power::Spun;
+use crate::power::cap_of;
 use crate::power::scaling;
 use crate::site::Limit;
 use crate::thin::advanced;
-use charger::charge_profile_list::profile_place;
+use charger::charge_profile_list::place_on_curve;
 use curve::float::same;
 use curve::units::Kw;
 ghost use mathlib.Core.Path.{_≡_};
 ghost use mathlib.Core.Bool.{true, false, not, _&&_};
 ghost use mathlib.Core.List.{[], _∷_};
 ghost use lib.Ieee.{lt, ne};
-ghost use Rattle.charger.specs.Profiles.{curveAt};
+ghost use Rattle.charger.specs.Code.Profiles.{curveAt};
 ghost use Rattle.engine.specs.ChargerState.{isFree, withCap, delivered};
-ghost use Rattle.engine.specs.Power.{spin};
-ghost use Rattle.engine.specs.Alone.{roundAlone, Settled};
-ghost use Rattle.engine.specs.Bank.{bank, Room, Rising, Cars, spun};
+ghost use Rattle.engine.specs.Code.Rounds.{spin};
+ghost use Rattle.engine.specs.Code.Alone.{roundAlone, CapMatchesRequest};
+ghost use Rattle.engine.specs.Code.Bank.{bank, Room, Rising, Cars, spun};
 
 // A car's state after some rounds.
 struct Alone {
@@ -71,15 +72,15 @@ fn round(s: ChargerState, power: Kw, limit: Limit) -> ChargerState
             }
         }
     }
-    advanced(asked, scaling(limit, 0.0 + asked.draw()))
+    advanced(asked, cap_of(asked, scaling(limit, 0.0 + asked.draw())))
 }
 
-// The same round, which is short where the car asks for what it asked for in the round before: its power cap is settled then.
-fn next(s: ChargerState, power: Kw, limit: Limit, settled: bool) -> ChargerState
-    requires { ⌜ (settled ≡ true → Settled limit s) ⌝ }
+// The same round, which is short where the car asks for what it asked for in the round before: its cap stays then.
+fn next(s: ChargerState, power: Kw, limit: Limit, later: bool) -> ChargerState
+    requires { ⌜ (later ≡ true → CapMatchesRequest limit s) ⌝ }
     ensures { λ r. ⌜ r ≡ roundAlone limit power s ⌝ }
 {
-    if settled {
+    if later {
         if same(power.0, s.requested.0) {
             return s.progress();
         }
@@ -97,8 +98,8 @@ fn rounds(start: ChargerState, curves: &[[f64; 2]], lens: &[u8], limit: Limit, c
     let mut segment = 0;
     let mut k = 0;
     while k < count {
-        let place = profile_place(curves, lens, s.profile, segment, s.soc);
-        segment = place.segment;
+        let place = place_on_curve(curves, lens, s.profile, segment, s.soc);
+        segment = place.reached;
         let power = place.power;
         s = next(s, power, limit, 0 < k);
         k += 1;
@@ -124,8 +125,8 @@ fn rounds(start: ChargerState, curves: &[[f64; 2]], lens: &[u8], limit: Limit, c
 
 // `charge_until` where the car at the place i is the only one among the first n chargers.
 pub fn charge_alone(
-    floats: &mut [f64],
-    bytes: &mut [u8],
+    floats: &mut [[f64; 9]],
+    bytes: &mut [[u8; 4]],
     n: usize,
     i: usize,
     curves: &[[f64; 2]],

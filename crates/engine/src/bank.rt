@@ -1,4 +1,4 @@
-// The bank: the states of all chargers in two lent slices, nine floats and three bytes for each charger.
+// The bank: the states of all chargers in two lent slices of rows, nine floats and four bytes for each charger.
 use crate::charger_state::ChargerState;
 use crate::charger_state::Status;
 use curve::units::Kw;
@@ -7,7 +7,7 @@ use curve::units::Seconds;
 ghost use mathlib.Core.Path.{_≡_};
 ghost use Prim.Native.Nat.{_+_};
 ghost use Rattle.engine.specs.ChargerState.{empty};
-ghost use Rattle.engine.specs.Bank.{statusByte, statusOf, stateAt, Room, Stored};
+ghost use Rattle.engine.specs.Code.Bank.{statusByte, statusOf, stateAt, Room, Stored};
 
 fn status_byte(status: Status) -> u8
     ensures { λ r. ⌜ r ≡ statusByte status ⌝ }
@@ -35,53 +35,52 @@ pub fn status_of(byte: u8) -> Status
     Status::Free
 }
 
-// The state of the charger at the place i.
-pub fn load(floats: &[f64], bytes: &[u8], i: usize) -> ChargerState
+// The state of the charger at the place i. Its bytes are read one by one: the status was written by itself just before, and a read
+// of the row as a word would wait for it.
+pub fn load(floats: &[[f64; 9]], bytes: &[[u8; 4]], i: usize) -> ChargerState
     requires { ⌜ Room (i + 1) (now floats) (now bytes) ⌝ }
     ensures { λ r. ⌜ r ≡ stateAt (now (floats .entry)) (now (bytes .entry)) i ⌝ }
 {
-    let f = 9 * i;
-    let b = 3 * i;
+    let f = floats[i];
     ChargerState {
-        status: status_of(bytes[b]),
-        profile: bytes[b + 1],
-        session: bytes[b + 2],
-        soc: floats[f],
-        target: floats[f + 1],
-        battery: Kwh(floats[f + 2]),
-        rated: Kw(floats[f + 3]),
-        requested: Kw(floats[f + 4]),
-        cap: Kw(floats[f + 5]),
-        idle: Seconds(floats[f + 6]),
-        energy: Kwh(floats[f + 7]),
-        peak: Kw(floats[f + 8]),
+        status: status_of(bytes[i][0]),
+        vehicle: bytes[i][1],
+        profile: bytes[i][2],
+        session: bytes[i][3],
+        soc: f[0],
+        target: f[1],
+        battery: Kwh(f[2]),
+        rated: Kw(f[3]),
+        requested: Kw(f[4]),
+        cap: Kw(f[5]),
+        idle: Seconds(f[6]),
+        energy: Kwh(f[7]),
+        peak: Kw(f[8]),
     }
 }
 
 // Puts s at the place i.
-pub fn store(floats: &mut [f64], bytes: &mut [u8], i: usize, s: ChargerState)
+pub fn store(floats: &mut [[f64; 9]], bytes: &mut [[u8; 4]], i: usize, s: ChargerState)
     requires { ⌜ Room (i + 1) (now floats) (now bytes) ⌝ }
     ensures { λ _. ⌜ Stored i s (now (floats .entry)) (now (bytes .entry)) (now (floats .exit)) (now (bytes .exit)) ⌝ }
 {
-    let f = 9 * i;
-    let b = 3 * i;
     let status = s.status;
-    bytes[b] = status_byte(status);
-    bytes[b + 1] = s.profile;
-    bytes[b + 2] = s.session;
-    floats[f] = s.soc;
-    floats[f + 1] = s.target;
-    floats[f + 2] = s.battery.0;
-    floats[f + 3] = s.rated.0;
-    floats[f + 4] = s.requested.0;
-    floats[f + 5] = s.cap.0;
-    floats[f + 6] = s.idle.0;
-    floats[f + 7] = s.energy.0;
-    floats[f + 8] = s.peak.0;
+    bytes[i] = [status_byte(status), s.vehicle, s.profile, s.session];
+    floats[i] = [
+        s.soc,
+        s.target,
+        s.battery.0,
+        s.rated.0,
+        s.requested.0,
+        s.cap.0,
+        s.idle.0,
+        s.energy.0,
+        s.peak.0,
+    ];
 }
 
 // Leaves the charger at the place i with no car.
-pub fn clear(floats: &mut [f64], bytes: &mut [u8], i: usize)
+pub fn clear(floats: &mut [[f64; 9]], bytes: &mut [[u8; 4]], i: usize)
     requires { ⌜ Room (i + 1) (now floats) (now bytes) ⌝ }
     ensures { λ _. ⌜ Stored i empty (now (floats .entry)) (now (bytes .entry)) (now (floats .exit)) (now (bytes .exit)) ⌝ }
 {
@@ -91,6 +90,7 @@ pub fn clear(floats: &mut [f64], bytes: &mut [u8], i: usize)
         i,
         ChargerState {
             status: Status::Free,
+            vehicle: 0,
             profile: 0,
             session: 0,
             soc: 0.0,

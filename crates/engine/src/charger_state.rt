@@ -15,7 +15,8 @@ pub enum Status {
     Finished,
 }
 
-// `profile` and `session` are places in the plan and in the book.
+// `vehicle` and `profile` are places in the plan, `session` is one in the book. `vehicle` stands last: beside the other three bytes
+// it would make a word of them, and the lone car's rounds slower.
 pub struct ChargerState {
     pub status: Status,
     pub profile: u8,
@@ -29,6 +30,7 @@ pub struct ChargerState {
     pub idle: Seconds,
     pub energy: Kwh,
     pub peak: Kw,
+    pub vehicle: u8,
 }
 
 // One second, in hours.
@@ -113,16 +115,6 @@ impl ChargerState {
         s
     }
 
-    // The power cap, scaled by `factor` if that is below 1.
-    pub fn capped(self, factor: f64) -> Self
-        ensures { λ r. ⌜ r ≡ Spec.capped factor self ⌝ }
-    {
-        if factor < 1.0 {
-            return self.with_cap(Kw(self.draw() * factor));
-        }
-        self.with_cap(self.rated)
-    }
-
     // A round of charging by a power: idle once the target is reached.
     pub fn delivered(self, power: f64) -> Self
         ensures { λ r. ⌜ r ≡ Spec.delivered power self ⌝ }
@@ -136,6 +128,7 @@ impl ChargerState {
         let soc = self.soc + energy / battery.0;
         ChargerState {
             status: charging_until(self.target, soc),
+            vehicle: self.vehicle,
             profile: self.profile,
             session: self.session,
             soc,
@@ -151,15 +144,15 @@ impl ChargerState {
     }
 
     // A round of charging.
-    fn charged(self) -> Self
-        ensures { λ r. ⌜ r ≡ Spec.charged self ⌝ }
+    fn after_charging(self) -> Self
+        ensures { λ r. ⌜ r ≡ Spec.afterCharging self ⌝ }
     {
         self.delivered(min(self.requested.0, self.cap.0))
     }
 
     // A round of standing idle: finished once no idle time is left.
-    fn idled(self) -> Self
-        ensures { λ r. ⌜ r ≡ Spec.idled self ⌝ }
+    fn after_idling(self) -> Self
+        ensures { λ r. ⌜ r ≡ Spec.afterIdling self ⌝ }
     {
         let battery = self.battery;
         let rated = self.rated;
@@ -170,6 +163,7 @@ impl ChargerState {
         let left = self.idle.0 - 1.0;
         ChargerState {
             status: idle_until(left),
+            vehicle: self.vehicle,
             profile: self.profile,
             session: self.session,
             soc: self.soc,
@@ -191,8 +185,8 @@ impl ChargerState {
         let status = self.status;
         match status {
             Status::Free => self,
-            Status::Charging => self.charged(),
-            Status::Idle => self.idled(),
+            Status::Charging => self.after_charging(),
+            Status::Idle => self.after_idling(),
             Status::Finished => self,
         }
     }

@@ -6,13 +6,16 @@ use crate::session::Outcome;
 use crate::session::Session;
 use crate::session::Sessions;
 use crate::session::minus;
-use crate::session::uncharged;
+use crate::site::QueueChange;
 use crate::site::Simulation;
 use crate::site::Site;
+use crate::site::Written;
 use crate::site::charger_of;
 use crate::site::charging_output;
 use crate::site::free_charger;
+use crate::site::renege;
 use crate::site::row_of;
+use crate::site::turn_away;
 use charger::vehicle::Vehicle;
 use charger::vehicle::no_vehicle;
 use charger::vehicle_list::VehicleList;
@@ -21,22 +24,23 @@ use curve::charge_profile::ChargingOutput;
 use curve::float::ceil;
 use curve::units::Seconds;
 ghost use mathlib.Core.Path.{_≡_};
-ghost use mathlib.Core.Bool.{Bool, not};
-ghost use mathlib.Core.List.{List, map};
+ghost use mathlib.Core.Bool.{false};
 ghost use Prim.Native.Nat.{ℕ, _+_, _^_, _≤_, _<_};
-ghost use lib.ListN.{take, set};
+ghost use lib.Dec.{eqb};
+ghost use lib.ListN.{getD, take, set};
 ghost use Rattle.curve.specs.F64.{ceiling};
 ghost use Rattle.charger.specs.Lists.{tick, All};
-ghost use Rattle.charger.specs.Vehicle.{listed};
-ghost use Rattle.engine.specs.Plan.{Plan, vehicle, output};
-ghost use Rattle.engine.specs.Discrete.{charged, run};
+ghost use Rattle.charger.specs.Code.Vehicles.{listed};
+ghost use Rattle.engine.specs.Plan.{stayOf};
+ghost use Rattle.engine.specs.Discrete.{sessionOf, chargedSession, run};
 ghost use Rattle.engine.specs.Demand.{isArrival};
-ghost use Rattle.engine.specs.Code.{planOf, stateOf, model, InTime, Sound, Effected};
+ghost use Rattle.engine.specs.Code.Simulation.{planOf, eventState, model, InTime, Sound, effectOf, Effected};
 
-// Which of the site's chargers are busy, beside the rest of its state. The events handled are those before the queue's head.
+// Who stands at each charger, beside the rest of the site's state: 0 for nobody, else one more than the vehicle's place in
+// the plan. The events handled are those before the queue's head.
 pub struct State {
     pub simulation: Simulation,
-    pub busy: [bool; 32],
+    pub places: [u8; 32],
 }
 
 // What becomes of a vehicle: nothing that is written down, a charger that it takes, or a session without charge.
@@ -46,10 +50,10 @@ pub enum Action {
     Books(Session),
 }
 
-// What an event does: the queue and the busy flags that it leaves, and then the action.
+// What an event does: the queue and the chargers' places that it leaves, and then the action.
 pub struct Effect {
     pub queue: WaitingQueue,
-    pub busy: [bool; 32],
+    pub places: [u8; 32],
     pub action: Action,
 }
 
@@ -57,28 +61,38 @@ pub struct Effect {
 fn stay(duration: Seconds, idle: Seconds) -> u64
     ensures { λ r. ⌜ (r ≡ ceiling (duration .0) + ceiling (idle .0)) × (r ≤ 2000000) ⌝ }
 {
-    ceil(duration) + ceil(idle)
+    let charging = duration.0;
+    let parked = idle.0;
+    ceil(Seconds(charging)) + ceil(Seconds(parked))
 }
 
-// The busy flags with one of them set; a charger that is not there has none.
-fn marked(busy: [bool; 32], c: usize, flag: bool) -> [bool; 32]
-    ensures { λ r. ⌜ r ≡ set busy c flag ⌝ }
+// The places with one of them set; a charger that is not there has none.
+fn placed(places: [u8; 32], c: usize, number: u8) -> [u8; 32]
+    ensures { λ r. ⌜ r ≡ set places c number ⌝ }
 {
-    let mut b = busy;
+    let mut p = places;
     if c < 32 {
-        b[c] = flag;
+        p[c] = number;
     }
-    b
+    p
+}
+
+// The places once the vehicle stands at the charger.
+fn occupied(places: [u8; 32], c: usize, v: usize) -> [u8; 32]
+    requires { ⌜ v < 64 ⌝ }
+    ensures { λ r. ⌜ r ≡ set places c (v + 1) ⌝ }
+{
+    placed(places, c, (v + 1) as u8)
 }
 
 // Which chargers are free.
-fn free_of(busy: [bool; 32]) -> [bool; 32]
-    ensures { λ r. ⌜ r ≡ map not busy ⌝ }
+fn free_of(places: [u8; 32]) -> [bool; 32]
+    ensures { λ r. ⌜ ((c : ℕ) → c < 32 → getD r c false ≡ eqb (getD places c 0) 0) ⌝ }
 {
-    let mut free = busy;
+    let mut free = [false; 32];
     let mut c = 0;
     while c < 32 {
-        free[c] = !busy[c];
+        free[c] = places[c] == 0;
         c += 1;
     }
     free
@@ -87,7 +101,7 @@ fn free_of(busy: [bool; 32]) -> [bool; 32]
 // The session of a car that takes a charger, by what its charge takes.
 fn session_of(v: usize, c: usize, time: u64, car: Vehicle, charge: ChargingOutput) -> Session
     requires { ⌜ time < 2 ^ 63 ⌝ }
-    ensures { λ r. ⌜ ((p : Plan) → car ≡ vehicle p v → charge ≡ output p v c → r ≡ charged p time v c) ⌝ }
+    ensures { λ r. ⌜ r ≡ sessionOf time v c car charge (stayOf car charge) ⌝ }
 {
     let duration = charge.duration;
     let idle = car.idle;
@@ -120,7 +134,7 @@ fn charge(
     c: usize,
 ) -> Session
     requires { ⌜ time < 2 ^ 63 ⌝ }
-    ensures { λ r. ⌜ r ≡ charged (planOf site rows (now (curves .entry)) (now (lens .entry))) time v c ⌝ }
+    ensures { λ r. ⌜ r ≡ chargedSession (planOf site rows (now (curves .entry)) (now (lens .entry))) time v c ⌝ }
 {
     let vehicles = site.vehicles;
     let mut vehicle = no_vehicle();
@@ -137,95 +151,75 @@ fn charge(
     session_of(v, c, time, vehicle, output)
 }
 
-// An arrival takes the first free charger that fits, else balks if the queue has reached its limit, else waits.
+// The effect of an event that gives nobody a charger and frees none.
+fn effect_of(change: QueueChange, places: [u8; 32]) -> Effect
+    ensures { λ r. ⌜ r ≡ effectOf change places ⌝ }
+{
+    let queue = change.queue;
+    let written = change.written;
+    match written {
+        Written::Nothing => Effect {
+            queue: queue,
+            places: places,
+            action: Action::Nothing,
+        },
+        Written::Books(x) => Effect {
+            queue: queue,
+            places: places,
+            action: Action::Books(x),
+        },
+    }
+}
+
+// An arrival takes the first free charger that fits, else it balks or waits.
 fn arrive(
     v: usize,
     queue: WaitingQueue,
-    busy: [bool; 32],
+    places: [u8; 32],
     vehicles: VehicleList,
     rows: [[bool; 5]; 32],
     count: usize,
 ) -> Effect
     requires { ⌜ (queue .len < 64) × (count ≤ 32) ⌝ }
-    ensures { λ r. ⌜ ((time c : ℕ) → Effected (listed vehicles) (take count rows) count EventType.Arrival time v c queue busy r) ⌝ }
+    ensures { λ r. ⌜ ((time c : ℕ) → Effected (listed vehicles) (take count rows) count EventType.Arrival time v c queue places r) ⌝ }
 {
     let vehicle = vehicles.get_vehicle(v);
-    let c = free_charger(free_of(busy), rows, count, vehicle);
+    let c = free_charger(free_of(places), rows, count, vehicle);
     if c < count {
         return Effect {
             queue: queue,
-            busy: busy,
+            places: places,
             action: Action::PlugsIn(v, c),
         };
     }
-    if vehicle.limit <= queue.len {
-        return Effect {
-            queue: queue,
-            busy: busy,
-            action: Action::Books(uncharged(v, Outcome::Balked, 0)),
-        };
-    }
-    Effect {
-        queue: queue.push_back(v),
-        busy: busy,
-        action: Action::Nothing,
-    }
-}
-
-// A renege finds its vehicle queued, and it leaves, or finds nobody.
-fn renege(
-    time: u64,
-    v: usize,
-    queue: WaitingQueue,
-    busy: [bool; 32],
-    vehicles: VehicleList,
-) -> Effect
-    requires { ⌜ queue .len ≤ 64 ⌝ }
-    ensures { λ r. ⌜ ((rows : List (List Bool)) (n c : ℕ) → Effected (listed vehicles) rows n EventType.Renege time v c queue busy r) ⌝ }
-{
-    let popped = queue.remove(v);
-    if popped.found {
-        let left = popped.queue;
-        let vehicle = vehicles.get_vehicle(popped.id);
-        let wait = minus(time, vehicle.arrival);
-        return Effect {
-            queue: left,
-            busy: busy,
-            action: Action::Books(uncharged(popped.id, Outcome::Reneged, wait)),
-        };
-    }
-    Effect {
-        queue: queue,
-        busy: busy,
-        action: Action::Nothing,
-    }
+    effect_of(turn_away(v, queue, vehicles), places)
 }
 
 // An unplug frees the charger, and the first queued vehicle that fits it takes it at once.
 fn unplug(
     c: usize,
     queue: WaitingQueue,
-    busy: [bool; 32],
+    places: [u8; 32],
     vehicles: VehicleList,
     rows: [[bool; 5]; 32],
     count: usize,
 ) -> Effect
     requires { ⌜ queue .len ≤ 64 ⌝ }
-    ensures { λ r. ⌜ ((time v : ℕ) → Effected (listed vehicles) (take count rows) count EventType.Unplug time v c queue busy r) ⌝ }
+    ensures { λ r. ⌜ ((time v : ℕ) → Effected (listed vehicles) (take count rows) count EventType.Unplug time v c queue places r) ⌝ }
 {
     let popped = queue.pop_compatible(vehicles, row_of(rows, count, c));
-    let freed = marked(busy, c, false);
+    let freed = placed(places, c, 0);
     if popped.found {
         let left = popped.queue;
         return Effect {
             queue: left,
-            busy: freed,
+            places: freed,
             action: Action::PlugsIn(popped.id, c),
         };
     }
     Effect {
         queue: queue,
-        busy: freed,
+        places: freed,
         action: Action::Nothing,
     }
 }
@@ -234,25 +228,25 @@ fn unplug(
 fn handle(
     e: Event,
     queue: WaitingQueue,
-    busy: [bool; 32],
+    places: [u8; 32],
     vehicles: VehicleList,
     rows: [[bool; 5]; 32],
     count: usize,
 ) -> Effect
     requires { ⌜ (queue .len + tick (isArrival (e .kind)) ≤ 64) × (count ≤ 32) ⌝ }
-    ensures { λ r. ⌜ Effected (listed vehicles) (take count rows) count (e .kind) (e .time) (e .vehicle) (e .charger) queue busy r ⌝ }
+    ensures { λ r. ⌜ Effected (listed vehicles) (take count rows) count (e .kind) (e .time) (e .vehicle) (e .charger) queue places r ⌝ }
 {
     let kind = e.kind;
     match kind {
-        EventType::Arrival => arrive(e.vehicle, queue, busy, vehicles, rows, count),
-        EventType::Renege => renege(e.time, e.vehicle, queue, busy, vehicles),
-        EventType::Unplug => unplug(e.charger, queue, busy, vehicles, rows, count),
+        EventType::Arrival => arrive(e.vehicle, queue, places, vehicles, rows, count),
+        EventType::Renege => effect_of(renege(e.time, e.vehicle, queue, vehicles), places),
+        EventType::Unplug => unplug(e.charger, queue, places, vehicles, rows, count),
     }
 }
 
 // The state of which these are the parts.
-fn state_of(events: EventQueue, queue: WaitingQueue, sessions: Sessions, busy: [bool; 32]) -> State
-    ensures { λ r. ⌜ r ≡ stateOf events queue sessions busy ⌝ }
+fn state_of(events: EventQueue, queue: WaitingQueue, sessions: Sessions, places: [u8; 32]) -> State
+    ensures { λ r. ⌜ r ≡ eventState events queue sessions places ⌝ }
 {
     State {
         simulation: Simulation {
@@ -260,7 +254,7 @@ fn state_of(events: EventQueue, queue: WaitingQueue, sessions: Sessions, busy: [
             queue: queue,
             sessions: sessions,
         },
-        busy: busy,
+        places: places,
     }
 }
 
@@ -281,22 +275,22 @@ pub fn run(
     let mut events = start.events;
     let mut queue = start.queue;
     let mut sessions = start.sessions;
-    let mut busy = [false; 32];
+    let mut places = [0; 32];
     let mut i = 0;
     while i < allowance {
         let head = events.head;
         if events.tail <= head {
-            return state_of(events, queue, sessions, busy);
+            return state_of(events, queue, sessions, places);
         }
         let e = events.all[head];
-        let effect = handle(e, queue, busy, vehicles, rows, site.count);
+        let effect = handle(e, queue, places, vehicles, rows, site.count);
         let left = effect.queue;
-        let flags = effect.busy;
+        let freed = effect.places;
         let action = effect.action;
         i += 1;
         events.head = head + 1;
         queue = left;
-        busy = flags;
+        places = freed;
         match action {
             Action::Nothing => {}
             Action::Books(x) => {
@@ -315,10 +309,10 @@ pub fn run(
                     vehicle: v,
                     charger: c,
                 });
-                let taken = marked(flags, c, true);
-                busy = taken;
+                let taken = occupied(freed, c, v);
+                places = taken;
             }
         }
     }
-    state_of(events, queue, sessions, busy)
+    state_of(events, queue, sessions, places)
 }

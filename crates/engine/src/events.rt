@@ -5,9 +5,9 @@ ghost use mathlib.Core.List.{[], _∷_};
 ghost use Prim.Native.Nat.{_+_, _≤_, _<_};
 ghost use lib.ListN.{length, take};
 ghost use Rattle.charger.specs.Lists.{All};
-ghost use Rattle.charger.specs.Vehicle.{listed};
+ghost use Rattle.charger.specs.Code.Vehicles.{listed};
 ghost use Rattle.engine.specs.Events.{before, push, Sorted, generate};
-ghost use Rattle.engine.specs.Code.{pending, behindFirst, eventOf, eventsOf, InTime};
+ghost use Rattle.engine.specs.Code.Simulation.{pending, behindFirst, eventOf, eventsOf, InTime};
 
 pub enum EventType {
     Arrival,
@@ -75,19 +75,21 @@ impl EventQueue {
 
 // Pending events as rows of numbers: the time, 0 for an arrival and 1 for a renege, and the vehicle.
 
-// Puts a row into the first n rows, behind those of its time and earlier.
+// Puts a row into the first n rows, which stand in order, behind those that it does not pop before.
 fn insert(rows: &mut [[u64; 3]], n: usize, row: [u64; 3])
     requires { ⌜ (n < length (now rows)) × Sorted (eventsOf (take n (now rows))) ⌝ }
     ensures { λ _. ⌜ eventsOf (take (n + 1) (now (rows .exit))) ≡ push (eventOf row) (eventsOf (take n (now (rows .entry)))) ⌝ }
 {
+    let event = event_of(row);
     let mut j = n;
     while 0 < j {
         let other = rows[j - 1];
-        if other[0] <= row[0] {
+        if pops_before(event, event_of(other)) {
+            rows[j] = other;
+            j -= 1;
+        } else {
             break;
         }
-        rows[j] = other;
-        j -= 1;
     }
     rows[j] = row;
 }

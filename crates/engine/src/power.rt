@@ -1,22 +1,23 @@
 // The site's power (evse/site.rs), and rounds over the bank.
-use crate::alone::charge_alone;
 use crate::bank::load;
 use crate::bank::store;
+use crate::charger_state::ChargerState;
 use crate::charger_state::Status;
 use crate::charger_state::is_finished;
 use crate::charger_state::is_free;
 use crate::site::Limit;
 use crate::thin::advanced;
-use charger::charge_profile_list::profile_place;
+use charger::charge_profile_list::place_on_curve;
+use curve::units::Kw;
 ghost use mathlib.Core.Path.{_≡_};
-ghost use mathlib.Core.Bool.{false, cond};
+ghost use mathlib.Core.Bool.{false};
 ghost use mathlib.Core.List.{map};
 ghost use Prim.Native.Nat.{_+_, _≤_, _<_};
 ghost use Rattle.curve.specs.F64.{ratio};
-ghost use Rattle.charger.specs.Profiles.{curveAt};
-ghost use Rattle.engine.specs.ChargerState.{isFree};
-ghost use Rattle.engine.specs.Bank.{bank, Room, Rising, Cars, Gathered, Requested, advanced, Advanced, spun};
+ghost use Rattle.charger.specs.Code.Profiles.{curveAt};
+ghost use Rattle.engine.specs.Code.Bank.{bank, Room, Rising, Cars, Requested, advanced, Advanced, spun};
 ghost use Rattle.engine.specs.Power as Spec;
+ghost use Rattle.engine.specs.Code.Rounds as Rounds;
 
 // The limit's share of the sum, if the sum is strictly above the limit.
 pub fn scaling(limit: Limit, sum: f64) -> f64
@@ -28,43 +29,34 @@ pub fn scaling(limit: Limit, sum: f64) -> f64
     }
 }
 
-// The chargers that have a car: the first `count` of `places`, in charger order.
-struct Busy {
-    places: [usize; 32],
-    count: usize,
-}
-
-// One more than `count`, if the charger has a car.
-fn counted(status: Status, count: usize) -> usize
-    requires { ⌜ count ≤ 32 ⌝ }
-    ensures { λ r. ⌜ r ≡ cond (isFree status) count (count + 1) ⌝ }
+// The cap that a factor leaves a car: what it draws, scaled, if the factor is below 1, else the rated power.
+pub fn cap_of(s: ChargerState, factor: f64) -> Kw
+    ensures { λ r. ⌜ r ≡ Spec.capOf factor s ⌝ }
 {
-    if is_free(status) { count } else { count + 1 }
-}
-
-fn busy_places(floats: &[f64], bytes: &[u8], n: usize) -> Busy
-    requires room { ⌜ Room n (now floats) (now bytes) ⌝ }
-    requires few { ⌜ n ≤ 32 ⌝ }
-    ensures { λ r. ⌜ Gathered (now (floats .entry)) (now (bytes .entry)) n (r .places) (r .count) ⌝ }
-{
-    let mut places: [usize; 32] = [0; 32];
-    let mut count: usize = 0;
-    let mut i: usize = 0;
-    while i < n {
-        let s = load(floats, bytes, i);
-        let status = s.status;
-        places[count] = i;
-        count = counted(status, count);
-        i += 1;
+    if factor < 1.0 {
+        return Kw(s.draw() * factor);
     }
-    Busy { places, count }
+    s.rated
+}
+
+// The sum with what a car draws. Idle cars count too.
+fn added(sum: f64, s: ChargerState) -> f64
+    ensures { λ r. ⌜ r ≡ Spec.added sum s ⌝ }
+{
+    let status = s.status;
+    match status {
+        Status::Free => sum,
+        Status::Charging => sum + s.draw(),
+        Status::Idle => sum + s.draw(),
+        Status::Finished => sum + s.draw(),
+    }
 }
 
 // One charger's turn in the first pass: its request, and the sum with its draw. `segments` has, for each charger, the segment of
 // its curve that was found last, which is where the search begins.
 fn request_at(
-    floats: &mut [f64],
-    bytes: &mut [u8],
+    floats: &mut [[f64; 9]],
+    bytes: &mut [[u8; 4]],
     i: usize,
     curves: &[[f64; 2]],
     lens: &[u8],
@@ -81,18 +73,18 @@ fn request_at(
     if is_free(status) {
         return sum;
     }
-    let place = profile_place(curves, lens, s.profile, segments[i], s.soc);
-    segments[i] = place.segment;
+    let place = place_on_curve(curves, lens, s.profile, segments[i], s.soc);
+    segments[i] = place.reached;
     let power = place.power;
     let asked = s.with_request(power);
     store(floats, bytes, i, asked);
-    sum + asked.draw()
+    added(sum, asked)
 }
 
 // The first pass: every car's request, and the sum of what all draw. `busy` has the places of the cars among the first n.
 fn request_power(
-    floats: &mut [f64],
-    bytes: &mut [u8],
+    floats: &mut [[f64; 9]],
+    bytes: &mut [[u8; 4]],
     n: usize,
     busy: &[usize],
     curves: &[[f64; 2]],
@@ -116,7 +108,13 @@ fn request_power(
 }
 
 // One charger's turn in the second pass: its cap and its progress.
-fn advance_at(floats: &mut [f64], bytes: &mut [u8], i: usize, factor: f64, any: bool) -> bool
+fn advance_at(
+    floats: &mut [[f64; 9]],
+    bytes: &mut [[u8; 4]],
+    i: usize,
+    factor: f64,
+    any: bool,
+) -> bool
     requires { ⌜ Room (i + 1) (now floats) (now bytes) ⌝ }
     ensures { λ r. ⌜ Advanced factor i any (now (floats .entry)) (now (bytes .entry)) (now (floats .exit)) (now (bytes .exit)) r ⌝ }
 {
@@ -125,7 +123,7 @@ fn advance_at(floats: &mut [f64], bytes: &mut [u8], i: usize, factor: f64, any: 
     if is_free(status) {
         return any;
     }
-    let t = advanced(s, factor);
+    let t = advanced(s, cap_of(s, factor));
     store(floats, bytes, i, t);
     let after = t.status;
     if is_finished(after) {
@@ -135,11 +133,17 @@ fn advance_at(floats: &mut [f64], bytes: &mut [u8], i: usize, factor: f64, any: 
 }
 
 // The second pass: every car's cap and progress. Says whether some charger is finished.
-fn advance(floats: &mut [f64], bytes: &mut [u8], n: usize, busy: &[usize], factor: f64) -> bool
+fn advance(
+    floats: &mut [[f64; 9]],
+    bytes: &mut [[u8; 4]],
+    n: usize,
+    busy: &[usize],
+    factor: f64,
+) -> bool
     requires room { ⌜ Room n (now floats) (now bytes) ⌝ }
     requires cars { ⌜ Cars (now floats) (now bytes) n (now busy) ⌝ }
     ensures moved { λ r. ⌜ bank n (now (floats .exit)) (now (bytes .exit)) ≡ map (advanced factor) (bank n (now (floats .entry)) (now (bytes .entry))) ⌝ }
-    ensures any { λ r. ⌜ r ≡ Spec.anyFinished false (bank n (now (floats .exit)) (now (bytes .exit))) ⌝ }
+    ensures any { λ r. ⌜ r ≡ Rounds.anyFinished false (bank n (now (floats .exit)) (now (bytes .exit))) ⌝ }
 {
     let mut any = false;
     let mut k: usize = 0;
@@ -152,8 +156,8 @@ fn advance(floats: &mut [f64], bytes: &mut [u8], n: usize, busy: &[usize], facto
 
 // A round of power and progress over the first n chargers. Says whether some charger is finished.
 fn charge(
-    floats: &mut [f64],
-    bytes: &mut [u8],
+    floats: &mut [[f64; 9]],
+    bytes: &mut [[u8; 4]],
     n: usize,
     busy: &[usize],
     curves: &[[f64; 2]],
@@ -166,7 +170,7 @@ fn charge(
     requires cars { ⌜ Cars (now floats) (now bytes) n (now busy) ⌝ }
     requires rising { ⌜ Rising (now curves) (now lens) ⌝ }
     ensures moved { λ r. ⌜ bank n (now (floats .exit)) (now (bytes .exit)) ≡ Spec.charge limit (curveAt (now (curves .entry)) (now (lens .entry))) (bank n (now (floats .entry)) (now (bytes .entry))) ⌝ }
-    ensures any { λ r. ⌜ r ≡ Spec.anyFinished false (bank n (now (floats .exit)) (now (bytes .exit))) ⌝ }
+    ensures any { λ r. ⌜ r ≡ Rounds.anyFinished false (bank n (now (floats .exit)) (now (bytes .exit))) ⌝ }
 {
     let sum = request_power(floats, bytes, n, busy, curves, lens, segments);
     advance(floats, bytes, n, busy, scaling(limit, sum))
@@ -178,11 +182,12 @@ pub struct Spun {
     pub any: bool,
 }
 
-// Rounds of power and progress, up to `count` of them, until some charger is finished.
-pub fn charge_until(
-    floats: &mut [f64],
-    bytes: &mut [u8],
+// Rounds of power and progress, up to `count` of them, until some charger is finished. `busy` has the places of the cars among the first n.
+pub fn charge_together(
+    floats: &mut [[f64; 9]],
+    bytes: &mut [[u8; 4]],
     n: usize,
+    busy: &[usize],
     curves: &[[f64; 2]],
     lens: &[u8],
     limit: Limit,
@@ -190,34 +195,14 @@ pub fn charge_until(
 ) -> Spun
     requires room { ⌜ Room n (now floats) (now bytes) ⌝ }
     requires few { ⌜ n ≤ 32 ⌝ }
+    requires cars { ⌜ Cars (now floats) (now bytes) n (now busy) ⌝ }
     requires rising { ⌜ Rising (now curves) (now lens) ⌝ }
-    ensures { λ r. ⌜ spun (bank n (now (floats .exit)) (now (bytes .exit))) r ≡ Spec.spin limit (curveAt (now (curves .entry)) (now (lens .entry))) 0 count (bank n (now (floats .entry)) (now (bytes .entry))) ⌝ }
+    ensures { λ r. ⌜ spun (bank n (now (floats .exit)) (now (bytes .exit))) r ≡ Rounds.spin limit (curveAt (now (curves .entry)) (now (lens .entry))) 0 count (bank n (now (floats .entry)) (now (bytes .entry))) ⌝ }
 {
-    let busy = busy_places(floats, bytes, n);
-    let places = busy.places;
-    let cars = busy.count;
-    if cars == 0 {
-        return Spun {
-            rounds: count,
-            any: false,
-        };
-    }
-    if cars == 1 {
-        return charge_alone(floats, bytes, n, places[0], curves, lens, limit, count);
-    }
     let mut segments: [usize; 32] = [0; 32];
     let mut k = 0;
     while k < count {
-        if charge(
-            floats,
-            bytes,
-            n,
-            &places[..cars],
-            curves,
-            lens,
-            &mut segments,
-            limit,
-        ) {
+        if charge(floats, bytes, n, busy, curves, lens, &mut segments, limit) {
             return Spun {
                 rounds: k + 1,
                 any: true,

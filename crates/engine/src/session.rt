@@ -6,7 +6,7 @@ ghost use mathlib.Core.Path.{_≡_};
 ghost use mathlib.Core.List.{[], _∷_, _++_};
 ghost use Prim.Native.Nat.{_+_, _-_, _<_};
 ghost use Rattle.engine.specs.SiteState.{uncharged};
-ghost use Rattle.engine.specs.Code.{booked};
+ghost use Rattle.engine.specs.Code.Simulation.{booked};
 
 pub enum Outcome {
     Open,

@@ -23,17 +23,20 @@ ghost use mathlib.Core.Path.{_≡_};
 ghost use mathlib.Core.Bool.{_&&_};
 ghost use mathlib.Core.List.{List};
 ghost use Prim.Native.Nat.{ℕ, _+_, _≤_, _<_};
+ghost use lib.Dec.{eqb};
 ghost use lib.Ieee.{Float};
 ghost use lib.ListN.{take};
 ghost use Rattle.curve.specs.Curve.{integrateOver};
 ghost use Rattle.charger.specs.Charger.{ratedPower};
+ghost use Rattle.charger.specs.First.{first};
 ghost use Rattle.charger.specs.Lists.{All};
-ghost use Rattle.charger.specs.Profiles.{curveAt};
-ghost use Rattle.charger.specs.Queue.{seek};
-ghost use Rattle.charger.specs.Vehicle.{compatible, listed};
+ghost use Rattle.charger.specs.Code.Profiles.{curveAt};
+ghost use Rattle.charger.specs.Code.Queue.{seek, waiting};
+ghost use Rattle.charger.specs.Vehicle.{compatible};
+ghost use Rattle.charger.specs.Code.Vehicles.{listed};
 ghost use Rattle.engine.specs.Plan.{chargerAt, rowAt, rated};
-ghost use Rattle.engine.specs.SiteState.{below};
-ghost use Rattle.engine.specs.Code.{batteryAt, planOf, takes, InTime, Sound, Starts, poppedFirst, requeued, Booked, Turned, Reneged};
+ghost use Rattle.engine.specs.SiteState.{below, balks, turned, withdrawn};
+ghost use Rattle.engine.specs.Code.Simulation.{batteryAt, planOf, takes, InTime, Starts, poppedFirst, requeued, Booked, writes, Answers, Changed};
 
 // The most that all chargers may draw together.
 pub enum Limit {
@@ -55,6 +58,18 @@ pub struct Simulation {
     pub events: EventQueue,
     pub queue: WaitingQueue,
     pub sessions: Sessions,
+}
+
+// What is written down of a vehicle that takes no charger: nothing, or its session.
+pub enum Written {
+    Nothing,
+    Books(Session),
+}
+
+// What becomes of the queue at an event that gives nobody a charger, and what is written down.
+pub struct QueueChange {
+    pub queue: WaitingQueue,
+    pub written: Written,
 }
 
 impl Simulation {
@@ -116,36 +131,64 @@ impl Simulation {
         }
     }
 
-    // The vehicle found no charger: it balks if the queue has reached its limit, else it waits.
-    pub fn turned_away(self, v: usize, vehicle: Vehicle) -> Self
-        requires { ⌜ Sound self × ((self .queue .len < 64) × (self .sessions .len < 64)) ⌝ }
-        ensures { λ r. ⌜ Turned v vehicle self r ⌝ }
+    // The queue as the event leaves it, with what is written down.
+    pub fn changed(self, change: QueueChange) -> Self
+        requires { ⌜ self .sessions .len + writes (change .written) ≤ 64 ⌝ }
+        ensures { λ r. ⌜ Changed change self r ⌝ }
     {
-        let queue = self.queue;
-        if vehicle.limit <= queue.len {
-            return self.with_session(uncharged(v, Outcome::Balked, 0));
+        let queue = change.queue;
+        let written = change.written;
+        match written {
+            Written::Nothing => self.with_queue(queue),
+            Written::Books(x) => self.with_queue(queue).with_session(x),
         }
-        self.with_queue(queue.push_back(v))
     }
+}
 
-    // A renege finds its vehicle queued, and it leaves, or finds nobody.
-    pub fn renege(self, time: u64, v: usize, vehicles: VehicleList) -> Self
-        requires { ⌜ Sound self × (self .sessions .len + self .queue .len ≤ 64) ⌝ }
-        ensures { λ r. ⌜ Reneged (listed vehicles) time v self r ⌝ }
-    {
-        let queue = self.queue;
-        let popped = queue.remove(v);
-        if popped.found {
-            let left = popped.queue;
-            let vehicle = vehicles.get_vehicle(popped.id);
-            self.with_queue(left).with_session(uncharged(
-                popped.id,
-                Outcome::Reneged,
-                minus(time, vehicle.arrival),
-            ))
-        } else {
-            self
-        }
+// The vehicle balks if the queue has reached its limit.
+fn balks(v: usize, queue: WaitingQueue, vehicles: VehicleList) -> bool
+    requires { ⌜ queue .len ≤ 64 ⌝ }
+    ensures { λ r. ⌜ r ≡ balks (listed vehicles) v (waiting queue) ⌝ }
+{
+    let vehicle = vehicles.get_vehicle(v);
+    vehicle.limit <= queue.len
+}
+
+// A vehicle that found no charger balks or waits.
+pub fn turn_away(v: usize, queue: WaitingQueue, vehicles: VehicleList) -> QueueChange
+    requires { ⌜ queue .len < 64 ⌝ }
+    ensures { λ r. ⌜ Answers (turned v (waiting queue) (balks (listed vehicles) v (waiting queue))) 1 queue r ⌝ }
+{
+    if balks(v, queue, vehicles) {
+        return QueueChange {
+            queue: queue,
+            written: Written::Books(uncharged(v, Outcome::Balked, 0)),
+        };
+    }
+    QueueChange {
+        queue: queue.push_back(v),
+        written: Written::Nothing,
+    }
+}
+
+// A renege finds its vehicle queued, and it leaves, or finds nobody.
+pub fn renege(time: u64, v: usize, queue: WaitingQueue, vehicles: VehicleList) -> QueueChange
+    requires { ⌜ queue .len ≤ 64 ⌝ }
+    ensures { λ r. ⌜ Answers (withdrawn (listed vehicles) time (waiting queue) (first (eqb v) (waiting queue))) 0 queue r ⌝ }
+{
+    let popped = queue.remove(v);
+    if popped.found {
+        let rest = popped.queue;
+        let vehicle = vehicles.get_vehicle(popped.id);
+        let wait = minus(time, vehicle.arrival);
+        return QueueChange {
+            queue: rest,
+            written: Written::Books(uncharged(popped.id, Outcome::Reneged, wait)),
+        };
+    }
+    QueueChange {
+        queue: queue,
+        written: Written::Nothing,
     }
 }
 

@@ -6,45 +6,51 @@ use Prim.Native.Nat.{ℕ, zero, suc, _+_, _*_, _/_, _%_, _≤_, _<_}
 use native.Mathlib.Omega.{arith}
 use borrow.Author.Tests.{ltb-true, ltb-false, leb-true, eqb-true, eqb-false, not-false, lt-leb, le-leb, ne-eqb}
 use lib.Dec.{leb, ltb, eqb}
-use lib.ListN.{length, getD}
+use lib.ListN.{length, getD, take, drop, length-take, length-drop, List·getD-eq-default}
+use lib.Seq.{length-take-le, getD-take, getD-drop}
 use Rattle.charger.specs.Lists.{All}
-use Rattle.engine.specs.Code.{InTime}
+use Rattle.engine.specs.Code.Simulation.{InTime}
 use Rattle.files.specs.Bytes.{leAt}
-use Rattle.files.specs.Blocks.{block}
-use Rattle.files.specs.Search.{first, holds}
-use Rattle.files.specs.Fields.{profileCount, chargerCount, vehicleCount, headerTests, profileTests, chargerTests, vehicleTests}
-use Rattle.files.specs.Plan.{kindAt, withId, lengthOk, countTests, fieldTests, broken, rules, refusal, checkBlocks}
-use Rattle.files.specs.Read.{Counted, profileBlock, chargerBlock, vehicleBlock, chargersOf, profilePlace, vehicleOf, vehicleIn, vehiclesOf}
-use Rattle.files.specs.declared.plan.Rule.{Rule}
-use Rattle.files.specs.declared.plan.Rule.the-variants.{Length}
-use Rattle.files.specs.declared.plan.Kind.the-variants.{Profile, Charger, Vehicle as VehicleKind}
-use Rattle.files.specs.declared.plan.Answer.{Answer}
-use Rattle.files.specs.declared.plan.Answer.the-variants.{Fine, Refused}
-use Rattle.files.proofs.PlanLaws.{with-id-from, with-id-to}
-use Rattle.files.proofs.BlockLaws.{block-read}
-use Rattle.files.proofs.SearchLaws.{and-true, holds-at, first-missed, length-each, all-each}
+use Rattle.files.specs.Blocks.{sealed, block}
+use Rattle.files.specs.Search.{firstIndex, holds}
+use Rattle.files.specs.Fields.{headerTests, profileTests, chargerTests, vehicleTests}
+use Rattle.files.specs.Places.{profileCount, chargerCount, vehicleCount, kindAt, profileBlock, chargerBlock, vehicleBlock}
+use Rattle.files.specs.Code.Reading.{Counted}
+use Rattle.files.specs.Plan.{withId, lengthOk, countTests, fieldTests, broken, rules, firstRefusal, checkBlocks}
+use Rattle.files.specs.Read.{profileIndex, vehicleOf, vehicleIn, vehiclesOf}
+use Rattle.files.specs.declared.answer.Rule.{Rule}
+use Rattle.files.specs.declared.answer.Rule.the-variants.{Length}
+use Rattle.files.specs.declared.places.Kind.the-variants.{Profile, Charger, Vehicle as VehicleKind}
+use Rattle.files.specs.declared.answer.Refusal.{Refusal}
+use Rattle.files.specs.declared.answer.Refusal.the-variants.{Broken}
+use Rattle.files.specs.declared.answer.Answer.{Answer}
+use Rattle.files.specs.declared.answer.Answer.the-variants.{Fine, Refused}
+use Rattle.files.proofs.read.Laws.{with-id-from, with-id-to}
+use Rattle.files.proofs.BlockLaws.{block-read, passes-sealed}
+use Rattle.charger.proofs.Lists.{and-true}
+use Rattle.files.proofs.SearchLaws.{holds-at, first-missed, all-each}
 
 -- ---- no rule refuses a block
 
-not-fine : {r : Rule} {k : ℕ} → Refused r k ≡ Fine → ⊥
+not-fine : {x : Refusal} → Refused x ≡ Fine → ⊥
 not-fine e = let z : _≡_ {A = ℕ} 0 1 = cc in omega arith
 
 -- an answer that is fine was not the refusal
-passed-over : (t : Bool) (r : Rule) (k : ℕ) (next : Answer) → cond t (Refused r k) next ≡ Fine → (t ≡ false) × (next ≡ Fine)
-passed-over true r k next e = absurd (not-fine e)
-passed-over false r k next e = (refl, e)
+passed-over : (t : Bool) (x : Refusal) (next : Answer) → cond t (Refused x) next ≡ Fine → (t ≡ false) × (next ≡ Fine)
+passed-over true x next e = absurd (not-fine e)
+passed-over false x next e = (refl, e)
 
-no-refusal : (rs : List Rule) (plan : List ℕ) (n : ℕ) → refusal rs plan n ≡ Fine → (i : ℕ) → i < length rs → (k : ℕ) → k < n
+no-refusal : (rs : List Rule) (plan : List ℕ) (n : ℕ) → firstRefusal rs plan n ≡ Fine → (i : ℕ) → i < length rs → (k : ℕ) → k < n
     → broken (getD rs i Length) plan k ≡ false
-unfolding refusal
+unfolding firstRefusal
 no-refusal [] plan n e i h k l = absurd (omega arith)
 no-refusal (r ∷ rs) plan n e zero h k l =
-    let at : ℕ = first (broken r plan) 0 n in
-    let miss = passed-over (ltb at n) r (at + 1) (refusal rs plan n) e in
+    let at : ℕ = firstIndex (broken r plan) 0 n in
+    let miss = passed-over (ltb at n) (Broken r (at + 1)) (firstRefusal rs plan n) e in
     first-missed (broken r plan) 0 n (omega (arith, ltb-false at n (miss .0))) k (omega arith) (omega arith)
 no-refusal (r ∷ rs) plan n e (suc i) h k l =
-    let at : ℕ = first (broken r plan) 0 n in
-    no-refusal rs plan n (passed-over (ltb at n) r (at + 1) (refusal rs plan n) e .1) i (omega arith) k l
+    let at : ℕ = firstIndex (broken r plan) 0 n in
+    no-refusal rs plan n (passed-over (ltb at n) (Broken r (at + 1)) (firstRefusal rs plan n) e .1) i (omega arith) k l
 
 -- ---- the kinds of the blocks
 
@@ -58,20 +64,20 @@ kind-charger plan c h =
     let k = 1 + profileCount plan + c in
     rw (ne-eqb k 0 (λ e. omega arith), lt-leb k (profileCount plan) (omega arith), le-leb k (profileCount plan + chargerCount plan) (omega arith))
 
-kind-vehicle : (plan : List ℕ) (v : ℕ) → kindAt plan (1 + profileCount plan + chargerCount plan + v) ≡ VehicleKind
+pub kind-vehicle : (plan : List ℕ) (v : ℕ) → kindAt plan (1 + profileCount plan + chargerCount plan + v) ≡ VehicleKind
 unfolding kindAt
 kind-vehicle plan v =
     let k = 1 + profileCount plan + chargerCount plan + v in
     rw (ne-eqb k 0 (λ e. omega arith), lt-leb k (profileCount plan) (omega arith), lt-leb k (profileCount plan + chargerCount plan) (omega arith))
 
-length-answer : (t : Bool) (next : Answer) → cond t next (Refused Length 0) ≡ Fine → (t ≡ true) × (next ≡ Fine)
+length-answer : (t : Bool) (next : Answer) → cond t next (Refused (Broken Length 0)) ≡ Fine → (t ≡ true) × (next ≡ Fine)
 length-answer true next e = (refl, e)
 length-answer false next e = absurd (not-fine e)
 
 module _ (plan : List ℕ) (fine : checkBlocks plan ≡ Fine) where
-  whole : (lengthOk (length plan) ≡ true) × (refusal rules plan (length plan / 512) ≡ Fine)
+  whole : (lengthOk (length plan) ≡ true) × (firstRefusal rules plan (length plan / 512) ≡ Fine)
   unfolding checkBlocks
-  whole = length-answer (lengthOk (length plan)) (refusal rules plan (length plan / 512)) fine
+  whole = length-answer (lengthOk (length plan)) (firstRefusal rules plan (length plan / 512)) fine
 
   -- the i-th rule refuses no block
   rule : (i : ℕ) → i < 7 → (k : ℕ) → k < length plan / 512 → broken (getD rules i Length) plan k ≡ false
@@ -99,6 +105,26 @@ module _ (plan : List ℕ) (fine : checkBlocks plan ≡ Fine) where
         blocks = omega (arith, some-blocks, eqb-true (1 + leAt 2 b 4 + leAt 2 b 6 + leAt 2 b 8) (length plan / 512) (test 4));
       }
 
+  -- a block of bytes that passes its check is a sealed block
+  pub sealed-block : ((i : ℕ) → getD plan i 0 < 256) → (k : ℕ) → 512 * k < length plan → block plan k ≡ sealed (k + 1) (take 508 (block plan k))
+  unfolding block
+  sealed-block bytes k h =
+      let part = drop (512 * k) plan in
+      let long : length (take 512 part) ≡ 512 = length-take-le 512 part (omega (arith, length-drop (512 * k) plan, some-blocks)) in
+      let byte : (i : ℕ) → getD (take 512 part) i 0 < 256 = λ i. byte-in i (ltb i 512) refl in
+      passes-sealed (k + 1) (take 512 part) long byte (not-false _ (rule 0 (omega arith) k (omega (arith, some-blocks))))
+    where
+      byte-in : (i : ℕ) (t : Bool) → ltb i 512 ≡ t → getD (take 512 (drop (512 * k) plan)) i 0 < 256
+      byte-in i true e = rw (getD-take 512 (drop (512 * k) plan) i 0 (ltb-true i 512 e), getD-drop (512 * k) plan i 0) (bytes (512 * k + i))
+      byte-in i false e =
+          let part = drop (512 * k) plan in
+          let past : length (take 512 part) ≤ i = omega (arith, length-take 512 part, ltb-false i 512 e) in
+          rw (List·getD-eq-default (take 512 part) 0 {n = i} past) (omega arith)
+
+  -- of a vehicle's block
+  pub vehicle-rule : (i : ℕ) → i < 7 → (v : ℕ) → v < vehicleCount plan → broken (getD rules i Length) plan (1 + profileCount plan + chargerCount plan + v) ≡ false
+  vehicle-rule i h v l = rule i h (1 + profileCount plan + chargerCount plan + v) (omega (arith, counted, some-blocks))
+
   field-tests : (k : ℕ) → k < length plan / 512 → holds (fieldTests (kindAt plan k) (block plan k)) ≡ true
   field-tests k h = not-false _ (rule 2 (omega arith) k h)
 
@@ -121,14 +147,6 @@ module _ (plan : List ℕ) (fine : checkBlocks plan ≡ Fine) where
 
   -- ---- what the engines ask
 
-  pub few-vehicles : length (vehiclesOf plan) ≤ 64
-  unfolding vehiclesOf
-  few-vehicles = rw length-each (counted .vehicles)
-
-  pub few-chargers : length (chargersOf plan) ≤ 32
-  unfolding chargersOf
-  few-chargers = rw length-each (counted .chargers)
-
   in-time-at : (v : ℕ) → v < vehicleCount plan → InTime (vehicleIn plan v)
   unfolding vehicleIn vehicleOf
   in-time-at v h =
@@ -141,12 +159,11 @@ module _ (plan : List ℕ) (fine : checkBlocks plan ≡ Fine) where
 
   -- 11: the vehicle's profile is one of the plan's
   named-at : (v : ℕ) → v < vehicleCount plan → vehicleIn plan v .profile < profileCount plan
-  unfolding vehicleIn vehicleOf profilePlace
+  unfolding vehicleIn vehicleOf profileIndex
   named-at v h =
       let id = leAt 4 (vehicleBlock plan v) 4 in
       let end = 1 + profileCount plan in
-      let k = 1 + profileCount plan + chargerCount plan + v in
-      let missed : eqb (withId plan 1 end id) end ≡ false = rw (kind-vehicle plan v) at (rule 6 (omega arith) k (omega (arith, counted, some-blocks))) in
+      let missed : eqb (withId plan 1 end id) end ≡ false = rw (kind-vehicle plan v) at (vehicle-rule 6 (omega arith) v h) in
       omega (arith, eqb-false (withId plan 1 end id) end missed, with-id-from plan 1 end id, with-id-to plan 1 end id (omega arith))
 
   pub profiles-named : All (λ x. x .profile < profileCount plan) (vehiclesOf plan)

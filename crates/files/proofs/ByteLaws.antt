@@ -1,13 +1,13 @@
 -- Laws of little-endian numbers, of fields and of runs of stores. Assumes nothing.
 use mathlib.Core.Path.{_≡_, refl, ap}
-use mathlib.Core.List.{List, [], _∷_, _++_, append-nil}
+use mathlib.Core.List.{List, [], _∷_, _++_, append-nil, append-assoc}
 use Prim.Native.Nat.{ℕ, zero, suc, _+_, _-_, _*_, _/_, _%_, _^_, _<_, _≤_}
-use native.Mathlib.Nat.{pow-suc, pow-le-pow-right, lt-of-lt-of-le, add-zero, add-suc, suc-add, mul-suc}
+use native.Mathlib.Nat.{pow-suc, pow-le-pow-right, lt-of-lt-of-le, add-zero, add-suc, suc-add, mul-suc, mul-zero}
 use native.Mathlib.Numerals.{add-one, add-two}
 use native.Mathlib.Omega.{arith}
 use lib.Dec.{lit<}
 use lib.ListN.{length, getD, set, take, drop, length-append, List·getD-append}
-use lib.Seq.{sets, drop-cons, getD-append-add}
+use lib.Seq.{sets, drop-cons, drop-at, drop-drop, getD-drop, getD-append-add}
 use Rattle.files.specs.Bytes.{leAt, bytes, fields, pieces}
 
 -- ---- a number that is read
@@ -41,6 +41,12 @@ pub leAt-right : (n : ℕ) (a b : List ℕ) (at : ℕ) → leAt n (a ++ b) (leng
 unfolding leAt
 leAt-right zero a b at = refl
 leAt-right (suc n) a b at = rw (getD-append-add a b at 0, ← add-suc (length a) at, leAt-right n a b (suc at))
+
+-- a number of what follows the first a bytes
+pub leAt-drop : (n a : ℕ) (s : List ℕ) (at : ℕ) → leAt n (drop a s) at ≡ leAt n s (a + at)
+unfolding leAt
+leAt-drop zero a s at = refl
+leAt-drop (suc n) a s at = rw (getD-drop a s at 0, leAt-drop n a s (suc at), add-suc)
 
 -- ---- a number that is written
 
@@ -113,6 +119,13 @@ fields-end (n ∷ v ∷ f) h = absurd (omega arith)
 
 -- ---- pieces of one length
 
+-- a list begins with another
+unfoldable pub Begins : List ℕ → List ℕ → Type 0
+Begins b a = (r : List ℕ) × (b ≡ a ++ r)
+
+pub next-place : (w i : ℕ) → w * suc i ≡ w + w * i
+next-place w i = rw mul-suc (omega arith)
+
 module _ (f : ℕ → List ℕ) (w : ℕ) (long : (k : ℕ) → length (f k) ≡ w) where
   pub length-pieces : (k m : ℕ) → length (pieces f k m) ≡ w * m
   unfolding pieces
@@ -127,3 +140,14 @@ module _ (f : ℕ → List ℕ) (w : ℕ) (long : (k : ℕ) → length (f k) ≡
       let p : n - i ≡ suc (n - (i + 1)) = omega arith in
       let r : at + w * (i + 1) ≡ at + w * i + w = rw (add-one, mul-suc) (omega arith) in
       rw r (rw (p, sets-append, long) at e)
+
+  -- what follows the first i pieces begins with the next one
+  pub piece-at : (k m i : ℕ) (r : List ℕ) → i < m → Begins (drop (w * i) (pieces f k m ++ r)) (f (k + i))
+  unfolding pieces Begins
+  piece-at k zero i r h = absurd (omega arith)
+  piece-at k (suc m) zero r h = (pieces f (k + 1) m ++ r, rw (mul-zero, add-zero, append-assoc))
+  piece-at k (suc m) (suc i) r h =
+      let next = piece-at (k + 1) m i r (omega arith) in
+      let e : k + suc i ≡ k + 1 + i = omega arith in
+      let d : drop w (f k ++ (pieces f (k + 1) m ++ r)) ≡ pieces f (k + 1) m ++ r = drop-at (f k) _ w (long k) in
+      (next .0, rw (e, append-assoc, next-place, ← drop-drop, d) (next .1))

@@ -1,44 +1,82 @@
--- Demand 3 holds of what every run answers.
+-- Demands 2 and 3 hold of what every run answers, and of the book that it leaves.
 use mathlib.Core.Path.{_≡_, refl, sym, ap, _∙_, subst}
 use mathlib.Core.Bool.{Bool, true, false, cond}
 use mathlib.Core.List.{List}
-use Prim.Native.Nat.{ℕ, zero, suc, _+_}
+use Prim.Native.Nat.{ℕ, zero, suc, _+_, _-_, _≤_}
 use native.Mathlib.Omega.{arith}
+use borrow.Author.Tests.{ltb-false, le-ltb}
 use lib.Dec.{ltb}
 use lib.ListN.{length}
+use Rattle.charger.specs.Lists.{tick}
 use Rattle.engine.specs.Plan.{Plan}
 use Rattle.engine.specs.Demand.{Demand, EventDemand, Kept}
-use Rattle.engine.proofs.Demanded.{by-events, by-steps, kept-by-events, kept-by-steps, event-demand}
-use Rattle.files.specs.Fields.{chargerCount, vehicleCount}
-use Rattle.files.specs.Read.{readPlan, chargersOf, vehiclesOf, vehicleIn, chargerOf, chargerBlock}
+use Rattle.engine.proofs.Demanded.{by-events, by-steps, kept-by-events, kept-by-steps, event-demand, step-demand}
+use Rattle.files.specs.Read.{readPlan}
 use Rattle.files.specs.Check.{checkPlan}
-use Rattle.files.specs.Call.{stopOf, totals, orElse, answerOf}
-use Rattle.files.specs.Demand.{OfRun, UnitsUsed, NoFreeFits, OneSpot, AddUp, ClosedStay, ExactWaits, EventsEnd}
-use Rattle.files.specs.declared.plan.Answer.{Answer}
-use Rattle.files.specs.declared.plan.Answer.the-variants.{Fine, Refused, CannotCharge}
-use Rattle.files.specs.declared.call.Totals.{Totals}
-use Rattle.files.specs.declared.call.RunAnswer.{RunAnswer}
-use Rattle.files.specs.declared.call.RunAnswer.the-variants.{EngineAbove, AllowanceAbove, BookUnder, Stopped}
-use Rattle.files.proofs.SearchLaws.{length-each}
+use Rattle.files.specs.Book.{written}
+use Rattle.files.specs.Call.{stopOf, totals, ifFine, answerOf, bookOf, bookAfter}
+use Rattle.files.specs.Demand.{OfRun, ReadsBack, UnitsUsed, FreeKnown, NoFreeFits, OneSpot, OneById, AddUp, CountsOfBook, ClosedStay, ExactWaits, Handled, EventsEnd, StepsEnd}
+use Rattle.files.specs.declared.answer.Answer.{Answer}
+use Rattle.files.specs.declared.answer.Answer.the-variants.{Fine, Refused}
+use Rattle.files.specs.declared.answer.Totals.{Totals}
+use Rattle.files.specs.declared.answer.RunAnswer.{RunAnswer}
+use Rattle.files.specs.declared.answer.RunAnswer.the-variants.{EngineAbove, AllowanceAbove, BookUnder, PlanRefused, Stopped}
+use Rattle.files.proofs.PairLaws.{plan-fine}
+use Rattle.files.proofs.BookDemand.{vehicle-count, outcomes-of-run, one-by-id, few-sessions, closed-stays}
 
--- what holds of a run's totals holds of its answer
-of-plan : (P : Totals → Type 0) (a : Answer) (t : Totals) → P t → OfRun P (orElse a (Stopped t))
-of-plan P Fine t h = h
-of-plan P (Refused r k) t h = tt
-of-plan P (CannotCharge v c) t h = tt
+-- ---- what is known of a run that was not refused
 
-of-run : (P : Totals → Type 0) (plan : List ℕ) (engine n room : ℕ) → P (totals (stopOf (readPlan plan) engine n)) → OfRun P (answerOf plan engine n room)
-unfolding answerOf
-of-run P plan engine n room h = go (ltb 1 engine) (ltb 10000000 n) (ltb room 7168)
-  where
-    run : RunAnswer
-    run = orElse (checkPlan plan) (Stopped (totals (stopOf (readPlan plan) engine n)))
+record Runs (plan : List ℕ) (engine n room : ℕ) (t : Totals) : Type 0 where
+  fine : checkPlan plan ≡ Fine
+  either : engine ≤ 1
+  allowed : n ≤ 10000000
+  fits : 7168 ≤ room
+  counts : t ≡ totals (stopOf (readPlan plan) engine n)
 
-    go : (a b c : Bool) → OfRun P (cond a EngineAbove (cond b AllowanceAbove (cond c BookUnder run)))
-    go true b c = tt
-    go false true c = tt
-    go false false true = tt
-    go false false false = of-plan P (checkPlan plan) (totals (stopOf (readPlan plan) engine n)) h
+of-map : {P Q : Totals → Type 0} → ((t : Totals) → P t → Q t) → (r : RunAnswer) → OfRun P r → OfRun Q r
+of-map f EngineAbove h = tt
+of-map f AllowanceAbove h = tt
+of-map f BookUnder h = tt
+of-map f (PlanRefused x) h = tt
+of-map f (Stopped t) h = f t h
+
+of-both : {P Q R : Totals → Type 0} → ((t : Totals) → P t → Q t → R t) → (r : RunAnswer) → OfRun P r → OfRun Q r → OfRun R r
+of-both f EngineAbove h k = tt
+of-both f AllowanceAbove h k = tt
+of-both f BookUnder h k = tt
+of-both f (PlanRefused x) h k = tt
+of-both f (Stopped t) h k = f t h k
+
+module _ (plan : List ℕ) (engine n room : ℕ) where
+  abbrev run : Totals
+  run = totals (stopOf (readPlan plan) engine n)
+
+  known : OfRun (Runs plan engine n room) (answerOf plan engine n room)
+  unfolding answerOf
+  known = by-engine (ltb 1 engine) refl
+    where
+      by-plan : (a : Answer) → checkPlan plan ≡ a → engine ≤ 1 → n ≤ 10000000 → 7168 ≤ room → OfRun (Runs plan engine n room) (ifFine a (Stopped run))
+      by-plan Fine e a b c = record { fine = e; either = a; allowed = b; fits = c; counts = refl }
+      by-plan (Refused x) e a b c = tt
+
+      by-room : (c : Bool) → ltb room 7168 ≡ c → engine ≤ 1 → n ≤ 10000000 → OfRun (Runs plan engine n room) (cond c BookUnder (ifFine (checkPlan plan) (Stopped run)))
+      by-room true e a b = tt
+      by-room false e a b = by-plan (checkPlan plan) refl a b (ltb-false room 7168 e)
+
+      by-allowance : (c : Bool) → ltb 10000000 n ≡ c → engine ≤ 1
+          → OfRun (Runs plan engine n room) (cond c AllowanceAbove (cond (ltb room 7168) BookUnder (ifFine (checkPlan plan) (Stopped run))))
+      by-allowance true e a = tt
+      by-allowance false e a = by-room (ltb room 7168) refl a (ltb-false 10000000 n e)
+
+      by-engine : (c : Bool) → ltb 1 engine ≡ c
+          → OfRun (Runs plan engine n room) (cond c EngineAbove (cond (ltb 10000000 n) AllowanceAbove (cond (ltb room 7168) BookUnder (ifFine (checkPlan plan) (Stopped run)))))
+      by-engine true e = tt
+      by-engine false e = by-allowance (ltb 10000000 n) refl (ltb-false 1 engine e)
+
+  -- and where nothing refuses it, a run is not refused
+  answered : checkPlan plan ≡ Fine → engine ≤ 1 → n ≤ 10000000 → 7168 ≤ room → answerOf plan engine n room ≡ Stopped run
+  unfolding answerOf
+  answered fine e a r = rw (le-ltb 1 engine e, le-ltb 10000000 n a, le-ltb room 7168 r, fine)
 
 -- ---- both engines
 
@@ -46,52 +84,119 @@ demanded : (p : Plan) (engine n : ℕ) → Demand p n (stopOf p engine n)
 demanded p zero n = by-events p n
 demanded p (suc e) n = by-steps p n
 
-kept : (p : Plan) (engine n more : ℕ) → Kept (stopOf p engine n .sessions) (stopOf p engine (n + more) .sessions)
-kept p zero n more = kept-by-events p n more
-kept p (suc e) n more = kept-by-steps p n more
-
-vehicle-count : (plan : List ℕ) → length (vehiclesOf plan) ≡ vehicleCount plan
-unfolding vehiclesOf
-vehicle-count plan = length-each (vehicleIn plan) 0 (vehicleCount plan)
-
-charger-count : (plan : List ℕ) → length (chargersOf plan) ≡ chargerCount plan
-unfolding chargersOf
-charger-count plan = length-each (λ (c : ℕ). chargerOf (chargerBlock plan c)) 0 (chargerCount plan)
+kept : (p : Plan) (engine n m : ℕ) → n ≤ m → Kept (stopOf p engine n .sessions) (stopOf p engine m .sessions)
+kept p engine n m h =
+    let e : n + (m - n) ≡ m = omega arith in
+    rw (← e) (more engine)
+  where
+    more : (engine : ℕ) → Kept (stopOf p engine n .sessions) (stopOf p engine (n + (m - n)) .sessions)
+    more zero = kept-by-events p n (m - n)
+    more (suc k) = kept-by-steps p n (m - n)
 
 -- ---- the sentences
 
+-- all of them, in the order in which the calls promise them
+abbrev pub Promises : List ℕ → ℕ → ℕ → List ℕ → RunAnswer → Type 0
+Promises plan engine n book r =
+    ReadsBack plan engine n book r
+    × (UnitsUsed plan engine n r
+    × (FreeKnown plan engine n r
+    × (NoFreeFits plan engine n r
+    × (OneSpot plan engine n r
+    × (OneById plan engine n book r
+    × (AddUp plan engine n r
+    × (CountsOfBook plan engine n book r
+    × (ClosedStay plan engine n book r
+    × (ExactWaits plan engine n r
+    × (Handled plan engine n r
+    × (EventsEnd plan engine n r
+    × StepsEnd plan engine n r)))))))))))
+
 module _ (plan : List ℕ) (engine n room : ℕ) (r : RunAnswer) (e : r ≡ answerOf plan engine n room) where
-  holds : (P : Totals → Type 0) → P (totals (stopOf (readPlan plan) engine n)) → OfRun P r
-  holds P h = subst (OfRun P) (sym e) (of-run P plan engine n room h)
+  runs : OfRun (Runs plan engine n room) r
+  runs = subst (OfRun (Runs plan engine n room)) (sym e) (known plan engine n room)
 
-  pub units-used : UnitsUsed plan engine n r
-  units-used = holds _ (demanded (readPlan plan) engine n .at-most, demanded (readPlan plan) engine n .fewer)
+  holds : (P : Totals → Type 0) → P (run plan engine n room) → OfRun P r
+  holds P h = of-map (λ t k. subst P (sym (k .counts)) h) r runs
 
-  pub no-free-fits : NoFreeFits plan engine n r
-  no-free-fits = holds _ (λ c l f. demanded (readPlan plan) engine n .no-free-fits c (omega (arith, l, charger-count plan)) f)
+  abbrev all : Demand (readPlan plan) n (stopOf (readPlan plan) engine n)
+  all = demanded (readPlan plan) engine n
 
-  pub one-spot : OneSpot plan engine n r
-  one-spot = holds _ (λ v l. demanded (readPlan plan) engine n .one-spot v (omega (arith, l, vehicle-count plan)))
+  units-used : UnitsUsed plan engine n r
+  units-used = holds _ (all .units)
 
-  pub add-up : AddUp plan engine n r
-  add-up = holds _ (demanded (readPlan plan) engine n .add-up ∙ vehicle-count plan)
+  free-known : FreeKnown plan engine n r
+  free-known = holds _ (all .free-known)
 
-  pub closed-stay : ClosedStay plan engine n r
-  closed-stay = holds _ (kept (readPlan plan) engine n)
+  no-free-fits : NoFreeFits plan engine n r
+  no-free-fits = holds _ (all .no-free-fits)
 
-  pub exact-waits : ExactWaits plan engine n r
-  exact-waits = holds _ (demanded (readPlan plan) engine n .waits)
+  one-spot : OneSpot plan engine n r
+  one-spot = holds _ (all .one-spot)
 
-  events-of : (k : ℕ) → engine ≡ k → k ≡ 0 → EventDemand (readPlan plan) n (stopOf (readPlan plan) engine n)
-  events-of k h z = rw (h ∙ z) (event-demand (readPlan plan) n)
+  add-up : AddUp plan engine n r
+  add-up = holds _ (all .add-up ∙ vehicle-count plan)
 
-  pub events-end : EventsEnd plan engine n r
+  exact-waits : ExactWaits plan engine n r
+  exact-waits = holds _ (all .waits)
+
+  events-of : engine ≡ 0 → EventDemand (readPlan plan) n (stopOf (readPlan plan) engine n)
+  events-of z = rw z (event-demand (readPlan plan) n)
+
+  handled : Handled plan engine n r
+  handled = holds _ (λ z. omega (arith, events-of z .handled, vehicle-count plan))
+
+  events-end : EventsEnd plan engine n r
   events-end =
       holds _
       (λ z.
-      let d = events-of engine refl z in
-      let v = vehicle-count plan in (
-        λ h. d .enough (omega (arith, h, v)),
-        λ h. omega (arith, d .all-handled h, v),
-        λ h. ap (length {A = ℕ}) (d .nobody-queued h),
-      ))
+      let d = events-of z .ends in
+      let v = vehicle-count plan in
+      (λ h. d .0 (omega (arith, h, v)), λ h. omega (arith, d .1 h, v), d .2))
+
+  steps-end : StepsEnd plan engine n r
+  steps-end = holds _ (λ z. rw z (step-demand (readPlan plan) n .ends))
+
+  -- ---- and those of the book
+
+  module _ (old book : List ℕ) (b : book ≡ bookAfter plan engine n r old) (back : ReadsBack plan engine n book r) where
+    one-id : OneById plan engine n book r
+    one-id = of-both (λ t k h. one-by-id plan book engine n (plan-fine plan (k .fine) .0) (h .sessions)) r runs back
+
+    counts-of-book : CountsOfBook plan engine n book r
+    counts-of-book =
+        of-both
+        (λ t k h.
+        let same : (o : ℕ) → _ = λ o. outcomes-of-run plan book (stopOf (readPlan plan) engine n .sessions) o (h .sessions) in
+        (ap (λ (u : Totals). u .«still_open») (k .counts) ∙ same 0, ap (λ (u : Totals). u .charged) (k .counts) ∙ same 1, ap (λ (u : Totals). u .reneged) (k .counts) ∙ same 2, ap (λ (u : Totals). u .balked) (k .counts) ∙ same 3))
+        r runs back
+
+    -- the bytes of the book
+    book-bytes : (r : RunAnswer) → book ≡ bookAfter plan engine n r old → OfRun (λ t. book ≡ written (bookOf plan engine (stopOf (readPlan plan) engine n)) old) r
+    book-bytes EngineAbove h = tt
+    book-bytes AllowanceAbove h = tt
+    book-bytes BookUnder h = tt
+    book-bytes (PlanRefused x) h = tt
+    book-bytes (Stopped t) h = h
+
+    -- what is known of the run, and its bytes
+    runs-written : OfRun (λ t. Runs plan engine n room t × (book ≡ written (bookOf plan engine (stopOf (readPlan plan) engine n)) old)) r
+    runs-written = of-both (λ t k h. (k, h)) r runs (book-bytes r b)
+
+    closed-stay : ClosedStay plan engine n book r
+    unfolding bookOf
+    closed-stay =
+        of-both {P = λ t. Runs plan engine n room t × (book ≡ written (bookOf plan engine (stopOf (readPlan plan) engine n)) old)}
+        (λ t k h m less most buffer room′ i inside low high.
+        let now = stopOf (readPlan plan) engine n in
+        let later = stopOf (readPlan plan) engine m in
+        let blocks = plan-fine plan (k .0 .fine) .0 in
+        let stays =
+        closed-stays plan engine (tick (now .ended)) (now .used) (tick (later .ended)) (later .used) (now .sessions) (later .sessions) old buffer (kept (readPlan plan) engine n m less) (few-sessions plan engine m blocks)
+        (rw (k .1) at (h .count)) (rw (k .1) at (h .sessions)) i (rw (k .1) at inside) (rw (k .1) at low) in
+        rw (answered plan engine m (length buffer) (k .0 .fine) (k .0 .either) most room′, k .1) stays)
+        r runs-written back
+
+    pub promised : Promises plan engine n book r
+    promised =
+        (back, (units-used, (free-known, (no-free-fits, (one-spot, (one-id, (add-up, (counts-of-book, (closed-stay, (exact-waits, (handled, (events-end, steps-end))))))))))))

@@ -1,59 +1,30 @@
 -- Laws of the pairs of a vehicle and a charger. Assumes nothing.
 use mathlib.Core.Path.{_≡_, refl, sym, _∙_, ap}
-use mathlib.Core.Bool.{Bool, true, false, cond, not, _&&_, false≢true}
+use mathlib.Core.Bool.{Bool, true, false, cond}
 use mathlib.Core.List.{List}
-use Prim.Native.Nat.{ℕ, _+_, _-_, _≤_, _<_}
+use Prim.Native.Nat.{ℕ, _<_}
 use native.Mathlib.Omega.{arith}
-use borrow.Author.Tests.{ltb-true, lt-ltb, le-ltb, ltb-false}
+use borrow.Author.Tests.{ltb-true}
 use lib.Dec.{ltb}
 use lib.Ieee.{Float}
 use lib.ListN.{length, getD, take}
-use Rattle.charger.specs.Profiles.{curveAt}
-use Rattle.charger.specs.declared.charger.Charger.{Charger}
-use Rattle.engine.specs.Plan.{Plan, chargerAt, rowAt, fits, output, rated}
-use Rattle.engine.specs.Code.{planOf}
+use Rattle.charger.specs.Code.Profiles.{curveAt}
+use Rattle.engine.specs.Plan.{Plan}
+use Rattle.engine.specs.Code.Simulation.{planOf}
 use Rattle.engine.specs.declared.site.Site.{Site}
-use Rattle.engine.proofs.At.{at-inside}
-use Rattle.files.specs.Search.{first}
-use Rattle.files.specs.Fields.{chargerCount, vehicleCount}
-use Rattle.files.specs.Read.{Counted, SiteRead, curveOfProfile, chargerBlock, chargerOf, chargersOf, connectorsOf, vehicleIn, vehiclesOf, readPlan}
+use Rattle.files.specs.Search.{firstIndex}
+use Rattle.files.specs.Places.{chargerCount, vehicleCount, chargerBlock}
+use Rattle.files.specs.Code.Reading.{Counted, SiteRead}
+use Rattle.files.specs.Read.{curveOfProfile, chargerOf, chargersOf, connectorRows, vehicleIn, vehiclesOf, readPlan}
 use Rattle.files.specs.Pairs.{failsAt, failingCharger, failsSomewhere, failingPair}
 use Rattle.files.specs.declared.pairs.FailingPair.the-variants.{Nothing, Pair}
-use Rattle.files.proofs.SearchLaws.{first-again, first-found, first-none, first-holds, length-each, first-missed}
-use Rattle.curve.specs.F64.{within}
+use Rattle.files.proofs.SearchLaws.{first-holds, length-each}
 use Rattle.files.specs.Plan.{checkBlocks}
-use Rattle.files.specs.Check.{pairAnswer, thenPairs, checkPlan}
+use Rattle.files.specs.Check.{pairAnswer, thenPairs, checkPlan, AllSealed}
 use Rattle.files.specs.declared.pairs.FailingPair.{FailingPair}
-use Rattle.files.specs.declared.plan.Answer.{Answer}
-use Rattle.files.specs.declared.plan.Answer.the-variants.{Fine, Refused, CannotCharge}
-
--- a member of an array's first n is one of the list that they stand for
-pub charger-inside : (l : List Charger) (n i : ℕ) (d : Charger) → i < n → i < length l → getD l i d ≡ chargerAt (take n l) i
-unfolding chargerAt
-charger-inside l n i d h k = at-inside l n i d _ h k
-
-pub row-inside : (l : List (List Bool)) (n i : ℕ) (d : List Bool) → i < n → i < length l → getD l i d ≡ rowAt (take n l) i
-row-inside l n i d h k = at-inside l n i d _ h k
-
--- a search of the vehicles: at v, the first charger that it fails at is c
-module _ (p : Plan) (n count : ℕ) (vs : length (p .vehicles) ≡ n) (cs : length (p .chargers) ≡ count) (v : ℕ) (on : first (failsSomewhere p) v (n - v) ≡ first (failsSomewhere p) 0 n) where
-  pub pair-met : (c : ℕ) → c ≡ failingCharger p v → v < n → c < count → failingPair p ≡ Pair v c
-  unfolding failingPair
-  pair-met c e h l =
-      let here : failsSomewhere p v ≡ true = rw (← e, cs) (lt-ltb c count l) in
-      let at : first (failsSomewhere p) 0 n ≡ v = sym on ∙ first-found (failsSomewhere p) v n h here in
-      rw (vs, at, lt-ltb v n h, ← e)
-
-  pub pair-passed : (c : ℕ) → c ≡ failingCharger p v → v < n → count ≤ c → first (failsSomewhere p) (v + 1) (n - (v + 1)) ≡ first (failsSomewhere p) 0 n
-  pair-passed c e h l =
-      let not-here : failsSomewhere p v ≡ false = rw (← e, cs) (le-ltb c count l) in
-      first-again (failsSomewhere p) v n h not-here on
-
-  pub pair-none : n ≤ v → failingPair p ≡ Nothing
-  unfolding failingPair
-  pair-none h =
-      let at : first (failsSomewhere p) 0 n ≡ v = sym on ∙ first-none (failsSomewhere p) v n h in
-      rw (vs, at, le-ltb v n h)
+use Rattle.files.specs.declared.answer.Answer.{Answer}
+use Rattle.files.proofs.Accepted.{sealed-block}
+use Rattle.files.specs.declared.answer.Answer.the-variants.{Fine, Refused}
 
 -- ---- the pair that is named
 
@@ -67,7 +38,7 @@ unfolding failingPair failingCharger
 pair-fails p v c e =
     let n = length (p .vehicles) in
     let m = length (p .chargers) in
-    let x : ℕ = first (failsSomewhere p) 0 n in
+    let x : ℕ = firstIndex (failsSomewhere p) 0 n in
     let is = pair-is (ltb x n) x (failingCharger p x) v c e in
     let inside : x < n = ltb-true x n (is .0) in
     let some : failsSomewhere p x ≡ true = first-holds (failsSomewhere p) 0 n (omega arith) in
@@ -75,38 +46,10 @@ pair-fails p v c e =
     let bad : failsAt p x (failingCharger p x) ≡ true = first-holds (failsAt p x) 0 m (omega arith) in
     rw (← is .1 .0, ← is .1 .1) (inside, (charger, bad))
 
--- ---- no pair is named
-
-no-pair : (t : Bool) (x y : ℕ) → cond t (Pair x y) Nothing ≡ Nothing → t ≡ false
-no-pair true x y e = absurd (let z : _≡_ {A = ℕ} 0 1 = cc in omega arith)
-no-pair false x y e = refl
-
--- then no pair of the plan fails
-pub none-fails : (p : Plan) → failingPair p ≡ Nothing → (v c : ℕ) → v < length (p .vehicles) → c < length (p .chargers) → failsAt p v c ≡ false
-unfolding failingPair failingCharger
-none-fails p e v c h l =
-    let n = length (p .vehicles) in
-    let m = length (p .chargers) in
-    let x : ℕ = first (failsSomewhere p) 0 n in
-    let all : n ≤ x = ltb-false x n (no-pair (ltb x n) x (failingCharger p x) e) in
-    let nowhere : failsSomewhere p v ≡ false = first-missed (failsSomewhere p) 0 n (omega arith) v (omega arith) (omega arith) in
-    let past : m ≤ failingCharger p v = ltb-false (failingCharger p v) m nowhere in
-    first-missed (failsAt p v) 0 m (omega arith) c (omega arith) (omega arith)
-
-not-and : (b : Bool) → (true && not b) ≡ false → b ≡ true
-not-and true e = refl
-not-and false e = absurd (false≢true (sym e))
-
--- and every pair that fits is charged within a week
-pub charged-in-time : (p : Plan) → failingPair p ≡ Nothing → (v c : ℕ) → v < length (p .vehicles) → c < length (p .chargers) → fits p v c ≡ true
-    → within (output p v c .duration .0) ≡ true
-unfolding fits output rated
-charged-in-time p e v c h l f = not-and (within (output p v c .duration .0)) (rw f at (none-fails p e v c h l))
-
 -- ---- the plan that the engines read is the one that the site, the rows and the table hold
 
 pub site-read : (plan : List ℕ) (site : Site) (rows : List (List Bool)) (curves : List (List Float)) (lens : List ℕ) → SiteRead plan site
-    → take (chargerCount plan) rows ≡ connectorsOf plan → ((k : ℕ) → curveAt curves lens k ≡ curveOfProfile plan k)
+    → take (chargerCount plan) rows ≡ connectorRows plan → ((k : ℕ) → curveAt curves lens k ≡ curveOfProfile plan k)
     → planOf site rows curves lens ≡ readPlan plan
 site-read plan site rows curves lens s r h = λ i. record {
   limit = s .limit i;
@@ -129,8 +72,7 @@ fine-pairs plan (Pair v c) e = absurd (let z : _≡_ {A = ℕ} 0 1 = cc in omega
 
 fine-answer : (a b : Answer) → thenPairs a b ≡ Fine → (a ≡ Fine) × (b ≡ Fine)
 fine-answer Fine b e = (refl, e)
-fine-answer (Refused r k) b e = absurd (let z : _≡_ {A = ℕ} 0 1 = cc in omega arith)
-fine-answer (CannotCharge v c) b e = absurd (let z : _≡_ {A = ℕ} 0 1 = cc in omega arith)
+fine-answer (Refused x) b e = absurd (let z : _≡_ {A = ℕ} 0 1 = cc in omega arith)
 
 -- a plan that is not refused: its blocks are fine, and no pair fails
 pub plan-fine : (plan : List ℕ) → checkPlan plan ≡ Fine → (checkBlocks plan ≡ Fine) × (failingPair (readPlan plan) ≡ Nothing)
@@ -138,3 +80,8 @@ unfolding checkPlan
 plan-fine plan e =
     let both = fine-answer (checkBlocks plan) (pairAnswer plan (failingPair (readPlan plan))) e in
     (both .0, fine-pairs plan (failingPair (readPlan plan)) (both .1))
+
+-- so its blocks are sealed blocks
+pub all-sealed : (plan : List ℕ) → ((k : ℕ) → getD plan k 0 < 256) → (a : Answer) → a ≡ checkPlan plan → AllSealed plan a
+all-sealed plan bytes Fine e = sealed-block plan (plan-fine plan (sym e) .0) bytes
+all-sealed plan bytes (Refused x) e = tt

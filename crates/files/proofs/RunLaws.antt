@@ -9,12 +9,12 @@ use lib.Dec.{leb, ltb}
 use lib.Ieee.{Float, le}
 use lib.ListN.{length}
 use Rattle.curve.specs.Curve.{curveOf}
-use Rattle.curve.specs.Rising.{Rises}
-use Rattle.curve.proofs.Sorted.{rises, held-socs}
+use Rattle.curve.specs.Code.Rising.{Rises}
+use Rattle.curve.proofs.sort.Sorted.{rises, held-socs}
 use Rattle.charger.specs.Lists.{tick, All}
-use Rattle.charger.specs.Queue.{waiting}
+use Rattle.charger.specs.Code.Queue.{waiting}
 use Rattle.charger.proofs.Lists.{all-map}
-use Rattle.charger.proofs.Part.{part-next, part-end}
+use Rattle.charger.proofs.waiting_queue.Part.{part-next, part-end}
 use Rattle.engine.specs.declared.events.Event.{Event}
 use Rattle.engine.specs.declared.events.EventQueue.{EventQueue}
 use Rattle.engine.specs.declared.session.Sessions.{Sessions}
@@ -24,28 +24,31 @@ use Rattle.engine.specs.declared.discrete.State.{State}
 use Rattle.engine.specs.Plan.{Plan}
 use Rattle.engine.specs.Events.{arrival}
 use Rattle.engine.specs.SiteState.{isEmpty}
-use Rattle.engine.specs.Code.{pending, booked, model, planOf, InTime, Sound}
+use Rattle.engine.specs.Code.Simulation.{pending, booked, model, planOf, InTime, Sound}
 use Rattle.engine.specs.Discrete as Discrete
 use Rattle.engine.specs.Timestep as Timestep
-use Rattle.engine.specs.Bank.{Rising}
-use Rattle.engine.specs.Steps.{Completed}
+use Rattle.engine.specs.Code.Bank.{Rising}
+use Rattle.engine.specs.Code.Steps.{RunDone}
 use Rattle.engine.specs.Demand.{byEvents, bySteps}
 use Rattle.files.specs.Totals.{counted}
-use Rattle.files.specs.Read.{Loaded, readPlan, profileBlock, pointsOf, curveOfProfile}
-use Rattle.files.specs.Fields.{profileCount}
+use Rattle.files.specs.Code.Reading.{Loaded, Admitted}
+use Rattle.files.specs.Read.{readPlan, pointsOf, curveOfProfile}
+use Rattle.files.specs.Places.{profileBlock, profileCount}
 use Rattle.files.specs.BookSession.{bookSessions}
-use Rattle.files.specs.Book.{Writable, bookBytes}
-use Rattle.files.specs.Call.{stopOf, totals, orElse, answerOf, bookOf, Shows, Runnable, Admitted}
+use Rattle.files.specs.Code.Writing.{Writable}
+use Rattle.files.specs.Book.{ReadBack, bookBytes}
+use Rattle.files.specs.Call.{stopOf, totals, ifFine, answerOf, bookOf}
+use Rattle.files.specs.Code.Running.{Shows, Runnable}
 use Rattle.files.specs.Plan.{checkBlocks}
 use Rattle.files.specs.Pairs.{failingPair}
 use Rattle.files.specs.Check.{pairAnswer, thenPairs, checkPlan}
-use Rattle.files.specs.declared.plan.Answer.{Answer}
-use Rattle.files.specs.declared.call.RunAnswer.the-variants.{EngineAbove, AllowanceAbove, BookUnder, Stopped}
+use Rattle.files.specs.declared.answer.Answer.{Answer}
+use Rattle.files.specs.declared.answer.RunAnswer.the-variants.{EngineAbove, AllowanceAbove, BookUnder, Stopped}
 use Rattle.files.proofs.Accepted.{in-time, profiles-named}
 use Rattle.files.proofs.Within.{points-within}
 use Rattle.files.proofs.PairLaws.{site-read}
 use Rattle.files.specs.declared.call.Ran.{Ran}
-use Rattle.files.specs.declared.call.Totals.{Totals}
+use Rattle.files.specs.declared.answer.Totals.{Totals}
 
 -- the queue's head has reached its tail just where no event is pending
 none-pending : (q : EventQueue) → length (q .all) ≡ 192 → q .tail ≤ 192 → leb (q .tail) (q .head) ≡ isEmpty (pending q)
@@ -76,8 +79,8 @@ shows-events p n count s t same sound whole e =
       few = sound .sessions;
     }
 
-pub shows-steps : (p : Plan) (n count used : ℕ) (ended : Bool) (s : Simulation) (floats : List Float) (bytes : List ℕ) (t : Totals)
-    → Completed p count n used ended s floats bytes → t ≡ counts used ended s → Shows (bySteps p n) (ran s t)
+pub shows-steps : (p : Plan) (n count used : ℕ) (ended : Bool) (s : Simulation) (floats : List (List Float)) (bytes : List (List ℕ)) (t : Totals)
+    → RunDone p count n used ended s floats bytes → t ≡ counts used ended s → Shows (bySteps p n) (ran s t)
 shows-steps p n count used ended s floats bytes t f e =
     let same = f .state in
     record {
@@ -132,6 +135,13 @@ book-shown plan engine n flag p r e s f =
     let over = f ∙ ap (λ (t : Totals). tick (t .ended)) (s .counts) in
     (λ i. bookBytes engine (over i) (used i) (bookSessions plan (s .sessions i))) ∙ ap (λ (q : Plan). bookOf plan engine (stopOf q engine n)) e
 
+pub back-shown : (plan book : List ℕ) (engine n flag : ℕ) (p : Plan) (r : Ran) → p ≡ readPlan plan → Shows (stopOf p engine n) r → flag ≡ tick (r .totals .ended)
+    → ReadBack engine flag (r .totals .used) (bookSessions plan (booked (r .sessions))) book
+    → ReadBack engine (tick (r .totals .ended)) (r .totals .used) (bookSessions plan (stopOf (readPlan plan) engine n .sessions)) book
+back-shown plan book engine n flag p r e s f h =
+    let same : booked (r .sessions) ≡ stopOf (readPlan plan) engine n .sessions = s .sessions ∙ ap (λ (q : Plan). stopOf q engine n .sessions) e in
+    rw (← f, ← same) h
+
 pub counts-shown : (plan : List ℕ) (engine n : ℕ) (p : Plan) (r : Ran) → p ≡ readPlan plan → Shows (stopOf p engine n) r → r .totals ≡ totals (stopOf (readPlan plan) engine n)
 counts-shown plan engine n p r e s = s .counts ∙ ap (λ (q : Plan). totals (stopOf q engine n)) e
 
@@ -154,6 +164,6 @@ module _ (plan : List ℕ) (engine allowance room : ℕ) where
 
       module _ (r : 7168 ≤ room) where
         pub by-plan : (a : Answer) → checkBlocks plan ≡ a
-            → answerOf plan engine allowance room ≡ orElse (thenPairs a (pairAnswer plan (failingPair (readPlan plan)))) (Stopped (totals (stopOf (readPlan plan) engine allowance)))
+            → answerOf plan engine allowance room ≡ ifFine (thenPairs a (pairAnswer plan (failingPair (readPlan plan)))) (Stopped (totals (stopOf (readPlan plan) engine allowance)))
         unfolding answerOf checkPlan
         by-plan a h = rw (le-ltb 1 engine e, le-ltb 10000000 allowance n, le-ltb room 7168 r, h)

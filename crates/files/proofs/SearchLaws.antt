@@ -1,8 +1,8 @@
 -- Laws of a loop over the indices from some k up to, not including, n, and of a list that such a loop fills. Assumes nothing.
 use mathlib.Core.Path.{_≡_, refl, sym, ap, _∙_}
-use mathlib.Core.Bool.{Bool, true, false, cond, _&&_, and-assoc, false≢true}
+use mathlib.Core.Bool.{Bool, true, false, cond, _&&_, and-assoc}
 use mathlib.Core.Logic.{inl, inr}
-use mathlib.Core.List.{List, [], _∷_, _++_, map, map-append}
+use mathlib.Core.List.{List, [], _∷_, _++_, map}
 use Prim.Native.Nat.{ℕ, zero, suc, _+_, _-_, _<_, _≤_}
 use native.Mathlib.Nat.{add-zero, zero-add, eq-or-lt-of-le}
 use native.Mathlib.Numerals.{add-one}
@@ -10,27 +10,27 @@ use native.Mathlib.Omega.{arith}
 use lib.ListN.{length, getD, set, take}
 use lib.Seq.{getD-take}
 use Rattle.charger.specs.Lists.{All, none, also}
-use Rattle.charger.proofs.Lists.{by-cond}
-use Rattle.charger.proofs.Part.{take-more, take-set}
-use Rattle.files.specs.Search.{first, every, andHold, holds, each}
+use Rattle.charger.proofs.Lists.{by-cond, and-true}
+use Rattle.charger.proofs.waiting_queue.Part.{take-set}
+use Rattle.files.specs.Search.{firstIndex, every, andHold, holds, each}
 
 module _ (f : ℕ → Bool) (k n : ℕ) where
   left : k < n → n - k ≡ suc (n - suc k)
   left h = omega arith
 
   -- f does not hold at k: the loop goes on
-  pub first-again : {t : ℕ} → k < n → f k ≡ false → first f k (n - k) ≡ t → first f (k + 1) (n - (k + 1)) ≡ t
-  unfolding first
+  pub first-again : {t : ℕ} → k < n → f k ≡ false → firstIndex f k (n - k) ≡ t → firstIndex f (k + 1) (n - (k + 1)) ≡ t
+  unfolding firstIndex
   first-again h e p = rw add-one (rw (left h, e) at p)
 
   -- it holds at k: that is the first
-  pub first-found : k < n → f k ≡ true → first f k (n - k) ≡ k
-  unfolding first
+  pub first-found : k < n → f k ≡ true → firstIndex f k (n - k) ≡ k
+  unfolding firstIndex
   first-found h e = rw (left h, e)
 
   -- nothing is left
-  pub first-none : n ≤ k → first f k (n - k) ≡ k
-  unfolding first
+  pub first-none : n ≤ k → firstIndex f k (n - k) ≡ k
+  unfolding firstIndex
   first-none h = let e : n - k ≡ 0 = omega arith in rw e
 
   pub every-again : {t : Bool} → k < n → f k ≡ true → every f k (n - k) ≡ t → every f (k + 1) (n - (k + 1)) ≡ t
@@ -54,10 +54,6 @@ module _ (f : ℕ → Bool) (k n : ℕ) where
   every-known true h p = sym (every-end h) ∙ p
   every-known false h p = p
 
-pub and-true : (a b : Bool) → (a && b) ≡ true → (a ≡ true) × (b ≡ true)
-and-true true b e = (refl, e)
-and-true false b e = absurd (false≢true e)
-
 -- ---- tests that all hold
 
 hold-next : (u : Bool) (us : List Bool) → u ≡ true → ((i : ℕ) → getD us i true ≡ true) → (i : ℕ) → getD (u ∷ us) i true ≡ true
@@ -79,33 +75,33 @@ holds-at (t ∷ ts) e i =
 
 -- ---- what `first` gives
 
-pub first-from : (f : ℕ → Bool) (k m : ℕ) → k ≤ first f k m
-unfolding first
+pub first-from : (f : ℕ → Bool) (k m : ℕ) → k ≤ firstIndex f k m
+unfolding firstIndex
 first-from f k zero = omega arith
 first-from f k (suc m) = by-cond (λ (n : ℕ). k ≤ n) (f k) (omega arith) (omega (arith, first-from f (suc k) m))
 
-pub first-to : (f : ℕ → Bool) (k m : ℕ) → first f k m ≤ k + m
-unfolding first
+pub first-to : (f : ℕ → Bool) (k m : ℕ) → firstIndex f k m ≤ k + m
+unfolding firstIndex
 first-to f k zero = omega arith
 first-to f k (suc m) = by-cond (λ (n : ℕ). n ≤ k + suc m) (f k) (omega arith) (omega (arith, first-to f (suc k) m))
 
 -- short of the end, f holds at what it gives
-pub first-holds : (f : ℕ → Bool) (k m : ℕ) → first f k m < k + m → f (first f k m) ≡ true
-unfolding first
+pub first-holds : (f : ℕ → Bool) (k m : ℕ) → firstIndex f k m < k + m → f (firstIndex f k m) ≡ true
+unfolding firstIndex
 first-holds f k zero h = absurd (omega arith)
 first-holds f k (suc m) h = go (f k) refl (λ g. first-holds f (suc k) m g)
   where
-    go : (t : Bool) → f k ≡ t → (first f (suc k) m < suc k + m → f (first f (suc k) m) ≡ true) → f (cond (f k) k (first f (suc k) m)) ≡ true
+    go : (t : Bool) → f k ≡ t → (firstIndex f (suc k) m < suc k + m → f (firstIndex f (suc k) m) ≡ true) → f (cond (f k) k (firstIndex f (suc k) m)) ≡ true
     go true e next = rw e e
     go false e next = rw e (next (omega (arith, rw e at h)))
 
 -- where it gives the end, f holds at no index
-pub first-missed : (f : ℕ → Bool) (k m : ℕ) → k + m ≤ first f k m → (j : ℕ) → k ≤ j → j < k + m → f j ≡ false
-unfolding first
+pub first-missed : (f : ℕ → Bool) (k m : ℕ) → k + m ≤ firstIndex f k m → (j : ℕ) → k ≤ j → j < k + m → f j ≡ false
+unfolding firstIndex
 first-missed f k zero h j a b = absurd (omega arith)
 first-missed f k (suc m) h j a b = go (f k) refl (λ g q. first-missed f (suc k) m g j q (omega arith))
   where
-    go : (t : Bool) → f k ≡ t → (suc k + m ≤ first f (suc k) m → suc k ≤ j → f j ≡ false) → f j ≡ false
+    go : (t : Bool) → f k ≡ t → (suc k + m ≤ firstIndex f (suc k) m → suc k ≤ j → f j ≡ false) → f j ≡ false
     go true e next = absurd (omega (arith, rw e at h))
     go false e next = elim (eq-or-lt-of-le a) [
       | inl p ↦ rw (← p) e
@@ -171,8 +167,3 @@ pub map-each : {A : Type 0} {B : Type 0} (g : A → B) (f : ℕ → A) (k m : �
 unfolding each
 map-each g f k zero = refl
 map-each {B = B} g f k (suc m) = ap (λ (l : List B). g (f k) ∷ l) (map-each g f (suc k) m)
-
--- one store more of a list that is filled from another
-pub map-step : {A : Type 0} {B : Type 0} (g : A → B) (l : List A) (a : List B) (i : ℕ) (d : A) (x : B) → i < length l → i < length a
-    → take i a ≡ map g (take i l) → x ≡ g (getD l i d) → take (i + 1) (set a i x) ≡ map g (take (i + 1) l)
-map-step g l a i d x h k e p = take-set a i x k ∙ rw (e, p, take-more l i d h, map-append)

@@ -11,18 +11,20 @@ use Rattle.curve.specs.F64.{ratio, inRange}
 use Rattle.curve.specs.Curve.{origin}
 use Rattle.curve.specs.Limits.{Within, Soc, Power, Battery, Held}
 use Rattle.curve.specs.declared.units.Kw.{Kw}
-use Rattle.curve.proofs.Limits.{from-bits, each-held}
+use Rattle.curve.proofs.float.Limits.{from-bits, each-held}
 use Rattle.charger.specs.Lists.{All}
 use Rattle.charger.specs.declared.charger.Charger.{Charger}
 use Rattle.charger.specs.declared.vehicle.Vehicle.{Vehicle}
 use Rattle.engine.specs.declared.site.Limit.the-variants.{Unlimited, AtMost}
 use Rattle.files.specs.Bytes.{leAt}
 use Rattle.files.specs.Blocks.{block}
-use Rattle.files.specs.Fields.{profileCount, chargerCount, vehicleCount, pointCount, pointOk, zeros}
+use Rattle.files.specs.Fields.{pointCount, pointOk, zeros}
+use Rattle.files.specs.Places.{profileCount, chargerCount, vehicleCount, profileBlock, chargerBlock, vehicleBlock}
 use Rattle.files.specs.Plan.{checkBlocks}
-use Rattle.files.specs.Read.{profileBlock, chargerBlock, vehicleBlock, pointAt, pointsOf, batteryOf, chargerOf, chargersOf, vehicleOf, vehicleIn, vehiclesOf, limitOf}
-use Rattle.files.specs.declared.plan.Answer.the-variants.{Fine}
-use Rattle.files.proofs.SearchLaws.{and-true, every-at, length-each, each-at, all-each}
+use Rattle.files.specs.Read.{pointAt, pointsOf, batteryOf, chargerOf, chargersOf, vehicleOf, vehicleIn, vehiclesOf, limitOf}
+use Rattle.files.specs.declared.answer.Answer.the-variants.{Fine}
+use Rattle.charger.proofs.Lists.{and-true}
+use Rattle.files.proofs.SearchLaws.{every-at, length-each, each-at, all-each}
 use Rattle.files.proofs.BlockLaws.{block-read}
 use Rattle.files.proofs.Accepted.{vehicle-tests, charger-tests, profile-tests, header-tests}
 

@@ -1,40 +1,14 @@
--- The book's bytes: header, then five 96-byte sessions a block, in the order pushed.
-use Prim.Native.Nat.{ℕ, zero, suc, _+_, _*_, _/_, _%_, _≤_}
+-- Rules. The book's bytes: header, then the blocks of its sessions, in the order pushed.
+use Prim.Native.Nat.{ℕ, _+_, _/_, _<_}
 use mathlib.Core.Path.{_≡_}
-use mathlib.Core.Bool.{Bool}
+use mathlib.Core.Bool.{true}
 use mathlib.Core.List.{List, [], _∷_, _++_}
-use lib.Ieee.{Float, binary64, toBits}
-use lib.ListN.{length, getD, take, drop}
-use Rattle.charger.specs.Vehicle.{listed}
-use Rattle.charger.specs.declared.vehicle_list.VehicleList.{VehicleList}
-use Rattle.engine.specs.declared.session.Sessions.{Sessions}
-use Rattle.files.specs.Bytes.{leAt, bytes, fields, pieces}
-use Rattle.files.specs.Blocks.{sealed}
-use Rattle.files.specs.Fields.{f64At, chargerCount}
-use Rattle.files.specs.Read.{Counted, connectorsOf, vehiclesOf}
+use lib.ListN.{length, take, drop}
+use Rattle.files.specs.Bytes.{leAt, fields}
+use Rattle.files.specs.Blocks.{sealed, passes, block}
+use Rattle.files.specs.Search.{each}
 use Rattle.files.specs.declared.book_session.BookSession.{BookSession}
-use Rattle.files.specs.BookSession.{noSession}
-
--- an f64 by its bits
-abbrev bits : Float → ℕ
-bits x = toBits binary64 x
-
--- a session's 96 bytes: widths and values, from byte 0 on; bytes 14 and 15 are unnamed
-unfoldable pub sessionBytes : BookSession → List ℕ
-sessionBytes x =
-    fields
-    (4 ∷ x .«vehicle_id» ∷ 4 ∷ x .«profile_id» ∷ 4 ∷ x .«charger_id» ∷ 1 ∷ x .connector ∷ 1 ∷ x .outcome ∷ 2 ∷ 0
-    ∷ 8 ∷ x .arrival ∷ 8 ∷ x .plugin ∷ 8 ∷ x .unplug ∷ 8 ∷ x .wait
-    ∷ 8 ∷ bits (x .duration .0) ∷ 8 ∷ bits (x .idle .0) ∷ 8 ∷ bits (x .peak .0) ∷ 8 ∷ bits (x .energy .0)
-    ∷ 8 ∷ bits (x .start) ∷ 8 ∷ bits (x .end) ∷ [])
-
--- the bytes of the session at the index k, zero past the last one
-unfoldable pub slot : List BookSession → ℕ → List ℕ
-slot xs k = sessionBytes (getD xs k noSession)
-
--- the block of the sessions 5 j to 5 j + 4; the header is place 1
-unfoldable pub sessionBlock : List BookSession → ℕ → List ℕ
-sessionBlock xs j = sealed (j + 2) (pieces (slot xs) (5 * j) 5 ++ bytes 28 0)
+use Rattle.files.specs.SessionBlocks.{sessionBlocks, sessionOffset, sessionsFrom}
 
 -- the header's block: the letters B, O, O, K; session count, engine, ended and used
 unfoldable pub headerBlock : ℕ → ℕ → ℕ → ℕ → List ℕ
@@ -43,50 +17,46 @@ headerBlock count engine ended used =
     (fields
     (1 ∷ 66 ∷ 1 ∷ 79 ∷ 1 ∷ 79 ∷ 1 ∷ 75 ∷ 2 ∷ count ∷ 1 ∷ engine ∷ 1 ∷ ended ∷ 8 ∷ used ∷ 492 ∷ 0 ∷ []))
 
--- the whole book
+-- the whole book; the header is place 1
 unfoldable pub bookBytes : ℕ → ℕ → ℕ → List BookSession → List ℕ
-bookBytes engine ended used xs = headerBlock (length xs) engine ended used ++ pieces (sessionBlock xs) 0 ((length xs + 4) / 5)
+bookBytes engine ended used xs = headerBlock (length xs) engine ended used ++ sessionBlocks 2 xs
 
 -- a buffer whose first bytes are those of a file; the bytes past them stay
 unfoldable pub written : List ℕ → List ℕ → List ℕ
 written file buffer = file ++ drop (length file) buffer
 
--- what is asked of a call that writes the book of a plan: the vehicles and rows are the plan's
-pub record Writable (plan : List ℕ) (list : VehicleList) (rows : List (List Bool)) (xs : Sessions) (book : List ℕ) : Type 0 where
-  pub counted : Counted plan
-  pub vehicles : listed list ≡ vehiclesOf plan
-  pub connectors : take (chargerCount plan) rows ≡ connectorsOf plan
-  pub sessions : xs .len ≤ 64
-  pub room : 7168 ≤ length book
-
 -- ---- the book read back
 
--- the session that b begins with
-unfoldable pub sessionOf : List ℕ → BookSession
-sessionOf b =
-    record {
-      «vehicle_id» = leAt 4 b 0;
-      «profile_id» = leAt 4 b 4;
-      «charger_id» = leAt 4 b 8;
-      connector = leAt 1 b 12;
-      outcome = leAt 1 b 13;
-      arrival = leAt 8 b 16;
-      plugin = leAt 8 b 24;
-      unplug = leAt 8 b 32;
-      wait = leAt 8 b 40;
-      duration = record { 0 = f64At b 48 };
-      idle = record { 0 = f64At b 56 };
-      peak = record { 0 = f64At b 64 };
-      energy = record { 0 = f64At b 72 };
-      start = f64At b 80;
-      end = f64At b 88;
-    }
+-- how many sessions a book says that it has
+abbrev pub sessionCount : List ℕ → ℕ
+sessionCount b = leAt 2 b 4
 
--- m sessions of a book, those from the index k on
-unfoldable pub sessionsFrom : List ℕ → ℕ → ℕ → List BookSession
-sessionsFrom b k zero = []
-sessionsFrom b k (suc m) = sessionOf (drop (512 + 512 * (k / 5) + 96 * (k % 5)) b) ∷ sessionsFrom b (suc k) m
+-- where the session at the index k begins: the sessions follow the header
+abbrev pub bookOffset : ℕ → ℕ
+bookOffset k = sessionOffset 512 k
+
+-- the 96 bytes of the session at the index k
+abbrev pub sessionAt : List ℕ → ℕ → List ℕ
+sessionAt b k = take 96 (drop (bookOffset k) b)
+
+-- its outcome byte
+abbrev pub outcomeAt : List ℕ → ℕ → ℕ
+outcomeAt b k = leAt 1 b (bookOffset k + 13)
+
+-- the outcome bytes of all sessions of a book
+abbrev pub outcomesOf : List ℕ → List ℕ
+outcomesOf b = each (outcomeAt b) 0 (sessionCount b)
 
 -- the sessions of a book
-unfoldable pub sessionsOf : List ℕ → List BookSession
-sessionsOf b = sessionsFrom b 0 (leAt 2 b 4)
+unfoldable pub sessionsIn : List ℕ → List BookSession
+sessionsIn b = sessionsFrom b 512 0 (sessionCount b)
+
+-- a book gives back what was written: the header's count, engine, ended and used, and the sessions; every block passes its check
+pub record ReadBack (engine ended used : ℕ) (xs : List BookSession) (book : List ℕ) : Type 0 where
+  pub letters : take 4 book ≡ 66 ∷ 79 ∷ 79 ∷ 75 ∷ []
+  pub count : sessionCount book ≡ length xs
+  pub engine-byte : leAt 1 book 6 ≡ engine
+  pub ended-byte : leAt 1 book 7 ≡ ended
+  pub used-units : leAt 8 book 8 ≡ used
+  pub sessions : sessionsIn book ≡ xs
+  pub checks : (k : ℕ) → k < 1 + (length xs + 4) / 5 → passes (k + 1) (block book k) ≡ true

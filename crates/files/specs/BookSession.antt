@@ -1,11 +1,9 @@
--- What the book says of a session.
-use Prim.Native.Nat.{ℕ, _≤_}
-use mathlib.Core.Path.{_≡_}
+-- Rules. What the book says of a session.
+use Prim.Native.Nat.{ℕ}
 use mathlib.Core.Bool.{Bool, true, false, cond}
 use mathlib.Core.List.{List, map}
-use lib.Dec.{ltb}
+use lib.Dec.{ltb, eqb}
 use lib.Ieee.{Float}
-use lib.ListN.{getD}
 use Rattle.curve.specs.F64.{ratio}
 use Rattle.charger.specs.Vehicle.{connectorOf, vehicleAt}
 use Rattle.charger.specs.declared.connector.Resolved.{Resolved}
@@ -17,8 +15,8 @@ use Rattle.engine.specs.declared.session.Outcome.{Outcome}
 use Rattle.engine.specs.declared.session.Outcome.the-variants.{Open, Charged, Reneged, Balked}
 use Rattle.engine.specs.declared.session.Session.{Session}
 use Rattle.files.specs.Bytes.{leAt}
-use Rattle.files.specs.Fields.{chargerCount, vehicleCount}
-use Rattle.files.specs.Read.{chargerBlock, vehicleBlock, connectorsOf, vehiclesOf}
+use Rattle.files.specs.Places.{chargerCount, vehicleCount, chargerBlock, vehicleBlock}
+use Rattle.files.specs.Read.{connectorRows, vehiclesOf}
 use Rattle.files.specs.declared.book_session.BookSession.{BookSession}
 
 -- the outcomes 2 and 3 have no charger: all is missing but ids of vehicle and profile, outcome, arrival, wait, start
@@ -77,7 +75,11 @@ entry plan vehicles connectors x =
 
 -- the sessions of the book of a plan
 unfoldable pub bookSessions : List ℕ → List Session → List BookSession
-bookSessions plan xs = map (entry plan (vehiclesOf plan) (connectorsOf plan)) xs
+bookSessions plan xs = map (entry plan (vehiclesOf plan) (connectorRows plan)) xs
+
+-- the session is one of the vehicle with the id
+abbrev pub hasId : ℕ → BookSession → Bool
+hasId id x = eqb id (x .«vehicle_id»)
 
 -- what stands in a session's place where there is none: its bytes are zero
 unfoldable pub noSession : BookSession
@@ -100,7 +102,3 @@ noSession =
       start = ratio 0 1;
       end = ratio 0 1;
     }
-
--- no session stands in the places from n on
-abbrev pub emptyFrom : ℕ → List BookSession → Type 0
-emptyFrom n xs = (k : ℕ) → n ≤ k → getD xs k noSession ≡ noSession

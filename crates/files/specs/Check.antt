@@ -1,61 +1,34 @@
--- What a check of a plan answers: the table's rows 4 to 12.
-use Prim.Native.Nat.{ℕ, _+_}
+-- Rules. What a check of a plan answers: the table's rows 4 to 12.
+use mathlib.Core.Path.{_≡_}
+use Prim.Native.Nat.{ℕ, _+_, _*_, _<_}
 use mathlib.Core.List.{List}
-use Rattle.files.specs.Fields.{profileCount, chargerCount}
+use lib.ListN.{length, take}
+use Rattle.files.specs.Blocks.{sealed, block}
+use Rattle.files.specs.Places.{placeOf}
 use Rattle.files.specs.Plan.{checkBlocks}
 use Rattle.files.specs.Read.{readPlan}
 use Rattle.files.specs.Pairs.{failingPair}
 use Rattle.files.specs.declared.pairs.FailingPair.{FailingPair}
 use Rattle.files.specs.declared.pairs.FailingPair.the-variants.{Nothing, Pair}
-use Rattle.files.specs.declared.plan.Rule.{Rule}
-use Rattle.files.specs.declared.plan.Rule.the-variants.{Length, Check, Header, Field, NoPoint, EqualSoc, UsedId, NoProfile}
-use Rattle.files.specs.declared.plan.Answer.{Answer}
-use Rattle.files.specs.declared.plan.Answer.the-variants.{Fine, Refused, CannotCharge}
-
--- the blocks' places in the file, where the first is 1
-abbrev pub vehiclePlace : List ℕ → ℕ → ℕ
-vehiclePlace plan v = 2 + profileCount plan + chargerCount plan + v
-
-abbrev pub chargerPlace : List ℕ → ℕ → ℕ
-chargerPlace plan c = 2 + profileCount plan + c
+use Rattle.files.specs.declared.answer.Refusal.the-variants.{CannotCharge}
+use Rattle.files.specs.declared.answer.Answer.{Answer}
+use Rattle.files.specs.declared.answer.Answer.the-variants.{Fine, Refused}
+use Rattle.files.specs.declared.places.Kind.the-variants.{Charger, Vehicle}
 
 -- 12: a pair that fails is named by its blocks
 abbrev pub pairAnswer : List ℕ → FailingPair → Answer
 pairAnswer plan Nothing = Fine
-pairAnswer plan (Pair v c) = CannotCharge (vehiclePlace plan v) (chargerPlace plan c)
+pairAnswer plan (Pair v c) = Refused (CannotCharge (placeOf plan Vehicle v) (placeOf plan Charger c))
 
 -- the pairs are tested where the blocks are fine
 abbrev pub thenPairs : Answer → Answer → Answer
 thenPairs Fine pairs = pairs
-thenPairs (Refused r k) pairs = Refused r k
-thenPairs (CannotCharge v c) pairs = CannotCharge v c
+thenPairs (Refused x) pairs = Refused x
 
 unfoldable pub checkPlan : List ℕ → Answer
 checkPlan plan = thenPairs (checkBlocks plan) (pairAnswer plan (failingPair (readPlan plan)))
 
--- ---- the paper's number and places of each answer
-
-abbrev pub ruleNumber : Rule → ℕ
-ruleNumber Length = 4
-ruleNumber Check = 5
-ruleNumber Header = 6
-ruleNumber Field = 7
-ruleNumber NoPoint = 8
-ruleNumber EqualSoc = 9
-ruleNumber UsedId = 10
-ruleNumber NoProfile = 11
-
-abbrev pub number : Answer → ℕ
-number Fine = 0
-number (Refused r k) = ruleNumber r
-number (CannotCharge v c) = 12
-
-abbrev pub place : Answer → ℕ
-place Fine = 0
-place (Refused r k) = k
-place (CannotCharge v c) = v
-
-abbrev pub otherPlace : Answer → ℕ
-otherPlace Fine = 0
-otherPlace (Refused r k) = 0
-otherPlace (CannotCharge v c) = c
+-- every block of a plan that is fine is one that is written with its check
+abbrev pub AllSealed : List ℕ → Answer → Type 0
+AllSealed plan Fine = (k : ℕ) → 512 * k < length plan → block plan k ≡ sealed (k + 1) (take 508 (block plan k))
+AllSealed plan (Refused x) = Unit {0}

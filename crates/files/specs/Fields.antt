@@ -1,4 +1,4 @@
--- The plan's blocks: the fields of each kind with their limits. Unnamed bytes are zero.
+-- Rules. The plan's blocks: the fields of each kind with their limits. Unnamed bytes are zero.
 use Prim.Native.Nat.{ℕ, _+_, _-_, _*_, min}
 use mathlib.Core.Bool.{Bool, _&&_, _||_}
 use mathlib.Core.List.{List, [], _∷_}
@@ -21,16 +21,6 @@ abbrev pub zeros : List ℕ → ℕ → ℕ → Bool
 zeros b from to = bytesIn b from to 0 0
 
 -- ---- header
-
--- P, C and V: how many profiles, chargers and vehicles a plan has
-abbrev pub profileCount : List ℕ → ℕ
-profileCount plan = leAt 2 plan 4
-
-abbrev pub chargerCount : List ℕ → ℕ
-chargerCount plan = leAt 2 plan 6
-
-abbrev pub vehicleCount : List ℕ → ℕ
-vehicleCount plan = leAt 2 plan 8
 
 -- the ASCII letters P, L, A, N
 abbrev pub lettersOk : List ℕ → Bool

@@ -1,4 +1,4 @@
--- The table's row 12: a vehicle and a charger that fit, and the charge duration is not within 0 to 604,800 s.
+-- Rules. The table's row 12: a vehicle and a charger that fit, and the charge duration is not within 0 to 604,800 s.
 use Prim.Native.Nat.{ℕ}
 use mathlib.Core.Bool.{Bool, cond, not, _&&_}
 use mathlib.Core.List.{List}
@@ -6,14 +6,14 @@ use lib.Dec.{ltb}
 use lib.ListN.{length}
 use Rattle.curve.specs.F64.{within}
 use Rattle.curve.specs.Curve.{integrateOver}
-use Rattle.curve.specs.declared.charge_profile.Point.{Point}
+use Rattle.curve.specs.declared.points.Point.{Point}
 use Rattle.curve.specs.declared.units.Kwh.{Kwh}
 use Rattle.charger.specs.Charger.{ratedPower}
 use Rattle.charger.specs.Vehicle.{compatible}
 use Rattle.charger.specs.declared.charger.Charger.{Charger}
 use Rattle.charger.specs.declared.vehicle.Vehicle.{Vehicle}
 use Rattle.engine.specs.Plan.{Plan, chargerAt, rowAt, vehicle}
-use Rattle.files.specs.Search.{first}
+use Rattle.files.specs.Search.{firstIndex}
 use Rattle.files.specs.declared.pairs.FailingPair.{FailingPair}
 use Rattle.files.specs.declared.pairs.FailingPair.the-variants.{Nothing, Pair}
 
@@ -31,7 +31,7 @@ module _ (p : Plan) where
 
   -- the first charger that the vehicle fails at; the number of chargers where there is none
   unfoldable pub failingCharger : ℕ → ℕ
-  failingCharger v = first (failsAt v) 0 (length (p .chargers))
+  failingCharger v = firstIndex (failsAt v) 0 (length (p .chargers))
 
   -- it fails at some charger
   abbrev pub failsSomewhere : ℕ → Bool
@@ -40,5 +40,5 @@ module _ (p : Plan) where
   -- the first vehicle that fails somewhere, with the first charger that it fails at
   unfoldable pub failingPair : FailingPair
   failingPair =
-      let v : ℕ = first failsSomewhere 0 (length (p .vehicles)) in
+      let v : ℕ = firstIndex failsSomewhere 0 (length (p .vehicles)) in
       cond (ltb v (length (p .vehicles))) (Pair v (failingCharger v)) Nothing

@@ -1,48 +1,24 @@
--- What a check of a plan's blocks answers: the table's rows 4 to 11.
+-- Rules. What a check of a plan's blocks answers: the table's rows 4 to 11.
 use Prim.Native.Nat.{ℕ, _+_, _-_, _*_, _/_, _%_}
-use mathlib.Core.Bool.{Bool, true, false, cond, not, _&&_}
+use mathlib.Core.Bool.{Bool, false, cond, not, _&&_}
 use mathlib.Core.List.{List, [], _∷_}
 use lib.Dec.{leb, ltb, eqb}
-use lib.Ieee.{Float, nan, eq}
-use lib.ListN.{length, getD}
+use lib.Ieee.{eq}
+use lib.ListN.{length}
 use Rattle.files.specs.Bytes.{leAt}
 use Rattle.files.specs.Blocks.{passes, block}
-use Rattle.files.specs.Search.{first, every, holds}
-use Rattle.files.specs.Fields.{f64At, profileCount, chargerCount, vehicleCount, lettersOk, headerTests, pointCount, profileTests, chargerTests, vehicleTests}
-use Rattle.files.specs.declared.plan.Rule.{Rule}
-use Rattle.files.specs.declared.plan.Rule.the-variants.{Length, Check, Header, Field, NoPoint, EqualSoc, UsedId, NoProfile}
-use Rattle.files.specs.declared.plan.Kind.{Kind}
-use Rattle.files.specs.declared.plan.Kind.the-variants.{Header as HeaderBlock, Profile, Charger, Vehicle}
-use Rattle.files.specs.declared.plan.Answer.{Answer}
-use Rattle.files.specs.declared.plan.Answer.the-variants.{Fine, Refused}
+use Rattle.files.specs.Search.{firstIndex, every, holds}
+use Rattle.files.specs.Fields.{f64At, lettersOk, headerTests, pointCount, profileTests, chargerTests, vehicleTests}
+use Rattle.files.specs.Places.{profileCount, chargerCount, vehicleCount, kindAt, startOf, isProfile, isVehicle}
+use Rattle.files.specs.declared.answer.Rule.{Rule}
+use Rattle.files.specs.declared.answer.Rule.the-variants.{Length, Check, Header, Field, NoPoint, EqualSoc, UsedId, NoProfile}
+use Rattle.files.specs.declared.places.Kind.{Kind}
+use Rattle.files.specs.declared.places.Kind.the-variants.{Header as HeaderBlock, Profile, Charger, Vehicle}
+use Rattle.files.specs.declared.answer.Refusal.the-variants.{Broken}
+use Rattle.files.specs.declared.answer.Answer.{Answer}
+use Rattle.files.specs.declared.answer.Answer.the-variants.{Fine, Refused}
 
--- ---- the order of the blocks: header, P profiles, C chargers, V vehicles
-
--- the kind of the block at the index k, counted from 0
-unfoldable pub kindAt : List ℕ → ℕ → Kind
-kindAt plan k =
-    cond (eqb k 0) HeaderBlock
-    (cond (leb k (profileCount plan)) Profile
-    (cond (leb k (profileCount plan + chargerCount plan)) Charger Vehicle))
-
--- the index of the first block of a kind
-abbrev pub startOf : List ℕ → Kind → ℕ
-startOf plan HeaderBlock = 0
-startOf plan Profile = 1
-startOf plan Charger = 1 + profileCount plan
-startOf plan Vehicle = 1 + profileCount plan + chargerCount plan
-
-abbrev pub isProfile : Kind → Bool
-isProfile HeaderBlock = false
-isProfile Profile = true
-isProfile Charger = false
-isProfile Vehicle = false
-
-abbrev pub isVehicle : Kind → Bool
-isVehicle HeaderBlock = false
-isVehicle Profile = false
-isVehicle Charger = false
-isVehicle Vehicle = true
+-- ---- ids
 
 -- the id of the block at the index k
 unfoldable pub idAt : List ℕ → ℕ → ℕ
@@ -50,7 +26,7 @@ idAt plan k = leAt 4 plan (512 * k)
 
 -- the first block from `from` up to, not including, `to` that has the id; `to` where none has it
 unfoldable pub withId : List ℕ → ℕ → ℕ → ℕ → ℕ
-withId plan from to id = first (λ j. eqb (idAt plan j) id) from (to - from)
+withId plan from to id = firstIndex (λ j. eqb (idAt plan j) id) from (to - from)
 
 -- ---- the table
 
@@ -75,10 +51,6 @@ fieldTests Profile b = profileTests b
 fieldTests Charger b = chargerTests b
 fieldTests Vehicle b = vehicleTests b
 
--- the i-th of some SOCs equals none before it
-unfoldable pub newAmong : List Float → ℕ → Bool
-newAmong socs i = every (λ j. not (eq (getD socs j nan) (getD socs i nan))) 0 i
-
 -- the i-th point's SOC equals that of no point before it
 unfoldable pub newSoc : List ℕ → ℕ → Bool
 newSoc b i = every (λ j. not (eq (f64At b (16 + 16 * j)) (f64At b (16 + 16 * i)))) 0 i
@@ -100,20 +72,20 @@ broken EqualSoc plan k = isProfile (kindAt plan k) && not (every (newSoc (block 
 broken UsedId plan k = ltb (withId plan (startOf plan (kindAt plan k)) k (idAt plan k)) k
 -- 11: vehicle names no profile
 broken NoProfile plan k =
-    isVehicle (kindAt plan k) && eqb (withId plan 1 (1 + profileCount plan) (leAt 4 (block plan k) 4)) (1 + profileCount plan)
+    isVehicle (kindAt plan k) && eqb (withId plan (startOf plan Profile) (startOf plan Charger) (leAt 4 (block plan k) 4)) (startOf plan Charger)
 
 -- the rules that are tested block by block, in number order
 abbrev pub rules : List Rule
 rules = Check ∷ Header ∷ Field ∷ NoPoint ∷ EqualSoc ∷ UsedId ∷ NoProfile ∷ []
 
 -- the first of the rules that refuses one of the n blocks, with the first such block's place
-unfoldable pub refusal : List Rule → List ℕ → ℕ → Answer
-refusal [] plan n = Fine
-refusal (r ∷ rs) plan n =
-    let k : ℕ = first (broken r plan) 0 n in
-    let next : Answer = refusal rs plan n in
-    cond (ltb k n) (Refused r (k + 1)) next
+unfoldable pub firstRefusal : List Rule → List ℕ → ℕ → Answer
+firstRefusal [] plan n = Fine
+firstRefusal (r ∷ rs) plan n =
+    let k : ℕ = firstIndex (broken r plan) 0 n in
+    let next : Answer = firstRefusal rs plan n in
+    cond (ltb k n) (Refused (Broken r (k + 1))) next
 
 -- what a check of the blocks answers
 unfoldable pub checkBlocks : List ℕ → Answer
-checkBlocks plan = cond (lengthOk (length plan)) (refusal rules plan (length plan / 512)) (Refused Length 0)
+checkBlocks plan = cond (lengthOk (length plan)) (firstRefusal rules plan (length plan / 512)) (Refused (Broken Length 0))

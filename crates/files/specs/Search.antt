@@ -1,13 +1,13 @@
--- The first index with a property, every index with one, and what a function gives at each index, by computation.
+-- Rules. The first index with a property, every index with one, and what a function gives at each index, by computation.
 use Prim.Native.Nat.{ℕ, zero, suc}
 use mathlib.Core.Bool.{Bool, true, cond, _&&_}
 use mathlib.Core.List.{List, [], _∷_}
 
 -- the first of the m indices from k on at which f holds, or k + m where it holds at none
-unfoldable pub first : (ℕ → Bool) → ℕ → ℕ → ℕ
-first f k zero = k
-first f k (suc m) =
-    let next : ℕ = first f (suc k) m in
+unfoldable pub firstIndex : (ℕ → Bool) → ℕ → ℕ → ℕ
+firstIndex f k zero = k
+firstIndex f k (suc m) =
+    let next : ℕ = firstIndex f (suc k) m in
     cond (f k) k next
 
 -- f holds at each of the m indices from k on

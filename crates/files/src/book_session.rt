@@ -1,7 +1,9 @@
 // What the book says of a session.
-use crate::blocks::block;
-use crate::bytes::u16_at;
 use crate::bytes::u32_at;
+use crate::places::Kind;
+use crate::places::block_of;
+use crate::places::charger_count;
+use crate::places::vehicle_count;
 use charger::connector::Resolved;
 use charger::vehicle::Vehicle;
 use charger::vehicle::connector_of;
@@ -18,12 +20,14 @@ ghost use mathlib.Core.Bool.{cond};
 ghost use mathlib.Core.List.{map};
 ghost use Prim.Native.Nat.{_+_, _≤_};
 ghost use lib.ListN.{take};
-ghost use Rattle.charger.specs.Vehicle.{connectorOf, listed};
-ghost use Rattle.engine.specs.Code.{booked};
-ghost use Rattle.files.specs.Fields.{chargerCount};
-ghost use Rattle.files.specs.Read.{Counted};
+ghost use Rattle.charger.specs.Vehicle.{connectorOf};
+ghost use Rattle.charger.specs.Code.Vehicles.{listed};
+ghost use Rattle.engine.specs.Code.Simulation.{booked};
+ghost use Rattle.files.specs.Places.{chargerCount};
+ghost use Rattle.files.specs.Code.Reading.{Counted};
 ghost use Rattle.engine.specs.Demand.{outcomeNumber};
-ghost use Rattle.files.specs.BookSession.{plugged as BookSession·plugged, charged as BookSession·charged, kept as BookSession·kept, codeOf, vehicleNumber, chargerId, entry as BookSession·entry, noSession, emptyFrom};
+ghost use Rattle.files.specs.BookSession.{plugged as BookSession·plugged, charged as BookSession·charged, kept as BookSession·kept, codeOf, vehicleNumber, chargerId, entry as BookSession·entry, noSession};
+ghost use Rattle.files.specs.Code.Writing.{emptyFrom, FitBelow};
 
 // A session as the book holds it; what is missing by its outcome is 0.
 pub struct BookSession {
@@ -99,8 +103,8 @@ fn vehicle_number(plan: &[u8], v: usize, at: usize) -> u32
     requires { ⌜ Counted (now plan) × (at + 4 ≤ 512) ⌝ }
     ensures { λ r. ⌜ r ≡ vehicleNumber (now (plan .entry)) v at ⌝ }
 {
-    if v < u16_at(plan, 8) {
-        return u32_at(block(plan, 1 + u16_at(plan, 4) + u16_at(plan, 6) + v), at);
+    if v < vehicle_count(plan) {
+        return u32_at(block_of(plan, Kind::Vehicle, v), at);
     }
     0
 }
@@ -113,8 +117,8 @@ fn charger_id(plan: &[u8], there: bool, c: usize) -> u32
     if !there {
         return 0;
     }
-    if c < u16_at(plan, 6) {
-        return u32_at(block(plan, 1 + u16_at(plan, 4) + c), 0);
+    if c < charger_count(plan) {
+        return u32_at(block_of(plan, Kind::Charger, c), 0);
     }
     0
 }
@@ -141,7 +145,7 @@ fn entry(plan: &[u8], vehicles: VehicleList, rows: [[bool; 5]; 32], x: Session) 
     let there = plugged(outcome);
     let done = charged(outcome);
     let vehicle = vehicles.get_vehicle(x.vehicle);
-    let row = row_of(rows, u16_at(plan, 6), x.charger);
+    let row = row_of(rows, charger_count(plan), x.charger);
     BookSession {
         vehicle_id: vehicle_number(plan, x.vehicle, 0),
         profile_id: vehicle_number(plan, x.vehicle, 4),
@@ -192,7 +196,7 @@ pub fn entries(
     sessions: Sessions,
 ) -> [BookSession; 65]
     requires { ⌜ Counted (now plan) × (sessions .len ≤ 64) ⌝ }
-    ensures { λ r. ⌜ (take (sessions .len) r ≡ map (BookSession·entry (now (plan .entry)) (listed vehicles) (take (chargerCount (now (plan .entry))) rows)) (booked sessions)) × emptyFrom (sessions .len) r ⌝ }
+    ensures { λ r. ⌜ (take (sessions .len) r ≡ map (BookSession·entry (now (plan .entry)) (listed vehicles) (take (chargerCount (now (plan .entry))) rows)) (booked sessions)) × (emptyFrom (sessions .len) r × FitBelow (sessions .len) r) ⌝ }
 {
     let n = sessions.len;
     let xs = sessions.all;

@@ -1,13 +1,12 @@
 // The two calls: check a plan, and run it by either engine under an allowance.
+use crate::answer::Answer;
+use crate::answer::RunAnswer;
+use crate::answer::Totals;
+use crate::answer::flag;
 use crate::book::write_book;
 use crate::check::check_plan;
-use crate::check::pair_answer;
-use crate::pairs::failing_pair;
-use crate::plan::Answer;
+use crate::check::read_plan;
 use crate::plan::check_blocks;
-use crate::read::read_connectors;
-use crate::read::read_curves;
-use crate::read::read_site;
 use crate::totals::count_up;
 use engine::discrete;
 use engine::session::Sessions;
@@ -16,36 +15,17 @@ use engine::timestep;
 ghost use mathlib.Core.Path.{_≡_};
 ghost use Prim.Native.Nat.{_≤_};
 ghost use lib.ListN.{length};
-ghost use Rattle.charger.specs.Lists.{tick};
-ghost use Rattle.engine.specs.Bank.{Rising};
-ghost use Rattle.engine.specs.Code.{planOf};
+ghost use Rattle.engine.specs.Code.Bank.{Rising};
+ghost use Rattle.engine.specs.Code.Simulation.{planOf};
 ghost use Rattle.engine.specs.Demand.{byEvents, bySteps};
-ghost use Rattle.files.specs.Check.{checkPlan, pairAnswer};
+ghost use Rattle.files.specs.Check.{checkPlan, pairAnswer, AllSealed};
 ghost use Rattle.files.specs.Pairs.{failingPair};
-ghost use Rattle.files.specs.Read.{Loaded, readPlan};
-ghost use Rattle.files.specs.Call.{Runnable, Shows, Admitted, stopOf, totals, orElse, bookOf, answerOf, bookAfter};
+ghost use Rattle.files.specs.Code.Reading.{Loaded, Admitted};
+ghost use Rattle.files.specs.Read.{readPlan};
+ghost use Rattle.files.specs.Code.Running.{Runnable, Shows};
+ghost use Rattle.files.specs.Call.{stopOf, totals, ifFine, bookOf, answerOf, bookAfter};
 ghost use Rattle.files.specs.Book.{written};
-ghost use Rattle.files.specs.Demand.{UnitsUsed, NoFreeFits, OneSpot, AddUp, ClosedStay, ExactWaits, EventsEnd};
-
-// Units used, ended, and how many vehicles are yet to arrive and queued; how many sessions are open, charged, reneged, balked.
-pub struct Totals {
-    pub used: u64,
-    pub ended: bool,
-    pub yet_to_arrive: u64,
-    pub queued: u64,
-    pub still_open: u64,
-    pub charged: u64,
-    pub reneged: u64,
-    pub balked: u64,
-}
-
-pub enum RunAnswer {
-    EngineAbove,
-    AllowanceAbove,
-    BookUnder,
-    PlanRefused(Answer),
-    Stopped(Totals),
-}
+ghost use Rattle.files.specs.Demand.{ReadsBack, UnitsUsed, FreeKnown, NoFreeFits, OneSpot, OneById, AddUp, CountsOfBook, ClosedStay, ExactWaits, Handled, EventsEnd, StepsEnd};
 
 // A run at its stop.
 pub struct Ran {
@@ -84,8 +64,8 @@ fn by_steps(
     requires { ⌜ (Runnable site × Rising (now curves) (now lens)) × (allowance ≤ 10000000) ⌝ }
     ensures { λ r. ⌜ Shows (bySteps (planOf site rows (now (curves .entry)) (now (lens .entry))) allowance) r ⌝ }
 {
-    let mut floats = [0.0; 288];
-    let mut bytes = [0u8; 96];
+    let mut floats = [[0.0; 9]; 32];
+    let mut bytes = [[0u8; 4]; 32];
     let run = timestep::run(site, rows, curves, lens, &mut floats, &mut bytes, allowance);
     let simulation = run.simulation;
     let sessions = simulation.sessions;
@@ -113,13 +93,6 @@ fn by_engine(
     by_steps(site, rows, curves, lens, allowance as u64)
 }
 
-// Yes or no as a byte.
-pub fn flag(b: bool) -> u8
-    ensures { λ r. ⌜ r ≡ tick b ⌝ }
-{
-    if b { 1 } else { 0 }
-}
-
 // Runs a plan that was read and is fine, and writes its book.
 fn run_site(
     plan: &[u8],
@@ -134,6 +107,7 @@ fn run_site(
     requires { ⌜ (Admitted (now plan) × Loaded (now plan) site rows (now curves) (now lens)) × ((engine ≤ 1) × (allowance ≤ 10000000) × (7168 ≤ length (now book))) ⌝ }
     ensures counts { λ r. ⌜ r ≡ totals (stopOf (readPlan (now (plan .entry))) engine allowance) ⌝ }
     ensures book { λ r. ⌜ now (book .exit) ≡ written (bookOf (now (plan .entry)) engine (stopOf (readPlan (now (plan .entry))) engine allowance)) (now (book .entry)) ⌝ }
+    ensures back { λ r. ⌜ ReadsBack (now (plan .entry)) engine allowance (now (book .exit)) (RunAnswer.Stopped r) ⌝ }
 {
     let ran = by_engine(site, rows, curves, lens, engine, allowance);
     let vehicles = site.vehicles;
@@ -155,28 +129,28 @@ fn run_site(
 // Tests the pairs of a plan whose blocks are fine, and runs it if none fails.
 fn run_blocks(plan: &[u8], engine: u32, allowance: u32, book: &mut [u8]) -> RunAnswer
     requires { ⌜ Admitted (now plan) × ((engine ≤ 1) × (allowance ≤ 10000000) × (7168 ≤ length (now book))) ⌝ }
-    ensures answer { λ r. ⌜ r ≡ orElse (pairAnswer (now (plan .entry)) (failingPair (readPlan (now (plan .entry))))) (RunAnswer.Stopped (totals (stopOf (readPlan (now (plan .entry))) engine allowance))) ⌝ }
+    ensures answer { λ r. ⌜ r ≡ ifFine (pairAnswer (now (plan .entry)) (failingPair (readPlan (now (plan .entry))))) (RunAnswer.Stopped (totals (stopOf (readPlan (now (plan .entry))) engine allowance))) ⌝ }
     ensures book { λ r. ⌜ now (book .exit) ≡ bookAfter (now (plan .entry)) engine allowance r (now (book .entry)) ⌝ }
+    ensures back { λ r. ⌜ ReadsBack (now (plan .entry)) engine allowance (now (book .exit)) r ⌝ }
 {
+    let mut rows = [[false; 5]; 32];
     let mut curves = [[0.0; 2]; 512];
     let mut lens = [0u8; 16];
-    read_curves(&mut curves, &mut lens, plan);
-    let site = read_site(plan);
-    let rows = read_connectors(plan);
-    let pair = failing_pair(site, rows, &curves, &lens);
-    let answer = pair_answer(plan, pair);
+    let reading = read_plan(plan, &mut rows, &mut curves, &mut lens);
+    let site = reading.site;
+    let answer = reading.answer;
     match answer {
         Answer::Fine => {
             RunAnswer::Stopped(run_site(plan, site, rows, &curves, &lens, engine, allowance, book))
         }
-        Answer::Refused(_, _) => RunAnswer::PlanRefused(answer),
-        Answer::CannotCharge(_, _) => RunAnswer::PlanRefused(answer),
+        Answer::Refused(refusal) => RunAnswer::PlanRefused(refusal),
     }
 }
 
 // Checks a plan.
 pub fn check(plan: &[u8]) -> Answer
-    ensures { λ r. ⌜ r ≡ checkPlan (now (plan .entry)) ⌝ }
+    ensures answer { λ r. ⌜ r ≡ checkPlan (now (plan .entry)) ⌝ }
+    ensures blocks { λ r. ⌜ AllSealed (now (plan .entry)) r ⌝ }
 {
     check_plan(plan)
 }
@@ -185,13 +159,19 @@ pub fn check(plan: &[u8]) -> Answer
 pub fn run(plan: &[u8], engine: u32, allowance: u32, book: &mut [u8]) -> RunAnswer
     ensures answer { λ r. ⌜ r ≡ answerOf (now (plan .entry)) engine allowance (length (now (book .entry))) ⌝ }
     ensures book { λ r. ⌜ now (book .exit) ≡ bookAfter (now (plan .entry)) engine allowance r (now (book .entry)) ⌝ }
+    ensures back { λ r. ⌜ ReadsBack (now (plan .entry)) engine allowance (now (book .exit)) r ⌝ }
     ensures units { λ r. ⌜ UnitsUsed (now (plan .entry)) engine allowance r ⌝ }
+    ensures free { λ r. ⌜ FreeKnown (now (plan .entry)) engine allowance r ⌝ }
     ensures settled { λ r. ⌜ NoFreeFits (now (plan .entry)) engine allowance r ⌝ }
     ensures spots { λ r. ⌜ OneSpot (now (plan .entry)) engine allowance r ⌝ }
+    ensures ids { λ r. ⌜ OneById (now (plan .entry)) engine allowance (now (book .exit)) r ⌝ }
     ensures counts { λ r. ⌜ AddUp (now (plan .entry)) engine allowance r ⌝ }
-    ensures closed { λ r. ⌜ ClosedStay (now (plan .entry)) engine allowance r ⌝ }
+    ensures outcomes { λ r. ⌜ CountsOfBook (now (plan .entry)) engine allowance (now (book .exit)) r ⌝ }
+    ensures closed { λ r. ⌜ ClosedStay (now (plan .entry)) engine allowance (now (book .exit)) r ⌝ }
     ensures waits { λ r. ⌜ ExactWaits (now (plan .entry)) engine allowance r ⌝ }
+    ensures handled { λ r. ⌜ Handled (now (plan .entry)) engine allowance r ⌝ }
     ensures events { λ r. ⌜ EventsEnd (now (plan .entry)) engine allowance r ⌝ }
+    ensures steps { λ r. ⌜ StepsEnd (now (plan .entry)) engine allowance r ⌝ }
 {
     if 1 < engine {
         return RunAnswer::EngineAbove;
@@ -205,7 +185,6 @@ pub fn run(plan: &[u8], engine: u32, allowance: u32, book: &mut [u8]) -> RunAnsw
     let answer = check_blocks(plan);
     match answer {
         Answer::Fine => run_blocks(plan, engine, allowance, book),
-        Answer::Refused(_, _) => RunAnswer::PlanRefused(answer),
-        Answer::CannotCharge(_, _) => RunAnswer::PlanRefused(answer),
+        Answer::Refused(refusal) => RunAnswer::PlanRefused(refusal),
     }
 }

@@ -1,28 +1,62 @@
 // A check of a plan: the refusals 4 to 12.
-use crate::bytes::u16_at;
+use crate::answer::Answer;
+use crate::answer::Refusal;
 use crate::pairs::FailingPair;
 use crate::pairs::failing_pair;
-use crate::plan::Answer;
-use crate::plan::Rule;
+use crate::places::Kind;
+use crate::places::place_of;
 use crate::plan::check_blocks;
 use crate::read::read_connectors;
 use crate::read::read_curves;
 use crate::read::read_site;
+use engine::site::Site;
 ghost use mathlib.Core.Path.{_≡_};
-ghost use Rattle.files.specs.Read.{Counted, readPlan};
+ghost use lib.ListN.{length};
+ghost use Rattle.files.specs.Code.Reading.{Loaded, Counted};
+ghost use Rattle.files.specs.Read.{readPlan};
 ghost use Rattle.files.specs.Pairs.{failingPair};
-ghost use Rattle.files.specs.Check.{pairAnswer, checkPlan, ruleNumber, number as Check·number, place as Check·place, otherPlace};
+ghost use Rattle.files.specs.Check.{pairAnswer, checkPlan};
 
 // What a plan's failing pair means: its blocks cannot charge.
 pub fn pair_answer(plan: &[u8], pair: FailingPair) -> Answer
     requires { ⌜ Counted (now plan) × (pair ≡ failingPair (readPlan (now plan))) ⌝ }
     ensures { λ r. ⌜ r ≡ pairAnswer (now (plan .entry)) pair ⌝ }
 {
-    let start = 2 + u16_at(plan, 4);
     match pair {
         FailingPair::Nothing => Answer::Fine,
-        FailingPair::Pair(v, c) => Answer::CannotCharge(start + u16_at(plan, 6) + v, start + c),
+        FailingPair::Pair(v, c) => {
+            Answer::Refused(Refusal::CannotCharge(
+                place_of(plan, Kind::Vehicle, v),
+                place_of(plan, Kind::Charger, c),
+            ))
+        }
     }
+}
+
+// A plan that was read, but for the connectors of its chargers and its curves, and what its pairs are answered.
+pub struct Reading {
+    pub site: Site,
+    pub answer: Answer,
+}
+
+// Reads a plan whose blocks are fine into rows, curves, lens and the site, and tests its pairs.
+pub fn read_plan(
+    plan: &[u8],
+    rows: &mut [[bool; 5]; 32],
+    curves: &mut [[f64; 2]],
+    lens: &mut [u8],
+) -> Reading
+    requires { ⌜ (length (now curves) ≡ 512) × ((length (now lens) ≡ 16) × Counted (now plan)) ⌝ }
+    ensures loaded { λ r. ⌜ Loaded (now (plan .entry)) (r .site) (now (rows .exit)) (now (curves .exit)) (now (lens .exit)) ⌝ }
+    ensures pairs { λ r. ⌜ r .answer ≡ pairAnswer (now (plan .entry)) (failingPair (readPlan (now (plan .entry)))) ⌝ }
+{
+    read_curves(curves, lens, plan);
+    let site = read_site(plan);
+    let connectors = read_connectors(plan);
+    *rows = connectors;
+    let pair = failing_pair(site, connectors, curves, lens);
+    let answer = pair_answer(plan, pair);
+    Reading { site, answer }
 }
 
 // 12, over a plan whose blocks are fine.
@@ -30,11 +64,11 @@ fn check_pairs(plan: &[u8]) -> Answer
     requires { ⌜ Counted (now plan) ⌝ }
     ensures { λ r. ⌜ r ≡ pairAnswer (now (plan .entry)) (failingPair (readPlan (now (plan .entry)))) ⌝ }
 {
+    let mut rows = [[false; 5]; 32];
     let mut curves = [[0.0; 2]; 512];
     let mut lens = [0u8; 16];
-    read_curves(&mut curves, &mut lens, plan);
-    let pair = failing_pair(read_site(plan), read_connectors(plan), &curves, &lens);
-    pair_answer(plan, pair)
+    let reading = read_plan(plan, &mut rows, &mut curves, &mut lens);
+    reading.answer
 }
 
 // What a check of a plan answers.
@@ -44,55 +78,6 @@ pub fn check_plan(plan: &[u8]) -> Answer
     let answer = check_blocks(plan);
     match answer {
         Answer::Fine => check_pairs(plan),
-        Answer::Refused(_, _) => answer,
-        Answer::CannotCharge(_, _) => answer,
-    }
-}
-
-fn rule_number(rule: Rule) -> u64
-    ensures { λ r. ⌜ r ≡ ruleNumber rule ⌝ }
-{
-    match rule {
-        Rule::Length => 4,
-        Rule::Check => 5,
-        Rule::Header => 6,
-        Rule::Field => 7,
-        Rule::NoPoint => 8,
-        Rule::EqualSoc => 9,
-        Rule::UsedId => 10,
-        Rule::NoProfile => 11,
-    }
-}
-
-// The paper's number of an answer.
-pub fn number(answer: Answer) -> u64
-    ensures { λ r. ⌜ r ≡ Check·number answer ⌝ }
-{
-    match answer {
-        Answer::Fine => 0,
-        Answer::Refused(rule, _) => rule_number(rule),
-        Answer::CannotCharge(_, _) => 12,
-    }
-}
-
-// The first place that an answer names.
-pub fn place(answer: Answer) -> usize
-    ensures { λ r. ⌜ r ≡ Check·place answer ⌝ }
-{
-    match answer {
-        Answer::Fine => 0,
-        Answer::Refused(_, k) => k,
-        Answer::CannotCharge(v, _) => v,
-    }
-}
-
-// The second place.
-pub fn other_place(answer: Answer) -> usize
-    ensures { λ r. ⌜ r ≡ otherPlace answer ⌝ }
-{
-    match answer {
-        Answer::Fine => 0,
-        Answer::Refused(_, _) => 0,
-        Answer::CannotCharge(_, c) => c,
+        Answer::Refused(_) => answer,
     }
 }

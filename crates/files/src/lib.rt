@@ -1,4 +1,5 @@
 // The files and the two calls: a plan's blocks, the table of refusals, the plan read into site data, the book, check and run.
+pub mod answer;
 mod blocks;
 mod book;
 mod book_session;
@@ -7,8 +8,9 @@ pub mod call;
 mod check;
 mod fields;
 mod ids;
-pub mod numbers;
 mod pairs;
-pub mod plan;
+mod places;
+mod plan;
 mod read;
+mod session_blocks;
 mod totals;

@@ -11,10 +11,10 @@ use engine::site::battery_of;
 ghost use mathlib.Core.Path.{_≡_};
 ghost use Prim.Native.Nat.{_≤_};
 ghost use lib.ListN.{take};
-ghost use Rattle.curve.specs.Curve.{points};
+ghost use Rattle.curve.specs.Code.Rows.{points};
 ghost use Rattle.engine.specs.Plan.{chargerAt, rowAt};
-ghost use Rattle.engine.specs.Code.{planOf};
-ghost use Rattle.files.specs.Search.{first};
+ghost use Rattle.engine.specs.Code.Simulation.{planOf};
+ghost use Rattle.files.specs.Search.{firstIndex};
 ghost use Rattle.files.specs.Pairs.{fails as Pairs·fails, failingPair};
 
 // The places of a vehicle and of a charger, each among its kind.
@@ -52,7 +52,7 @@ fn failing_charger(
     count: usize,
 ) -> usize
     requires { ⌜ count ≤ 32 ⌝ }
-    ensures { λ r. ⌜ r ≡ first (λ c. Pairs·fails (points (now (curve .entry))) battery vehicle (chargerAt (take count chargers) c) (rowAt (take count rows) c)) 0 count ⌝ }
+    ensures { λ r. ⌜ r ≡ firstIndex (λ c. Pairs·fails (points (now (curve .entry))) battery vehicle (chargerAt (take count chargers) c) (rowAt (take count rows) c)) 0 count ⌝ }
 {
     let mut c = 0;
     while c < count {

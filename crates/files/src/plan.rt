@@ -1,7 +1,9 @@
 // A check of a plan's blocks: the refusals 4 to 11, in number order, each over the whole plan before the next.
+use crate::answer::Answer;
+use crate::answer::Refusal;
+use crate::answer::Rule;
 use crate::blocks::block;
 use crate::blocks::check_of;
-use crate::bytes::u16_at;
 use crate::bytes::u32_at;
 use crate::fields::charger_ok;
 use crate::fields::f64_at;
@@ -12,100 +14,26 @@ use crate::fields::profile_ok;
 use crate::fields::vehicle_ok;
 use crate::ids::id_at;
 use crate::ids::with_id;
+use crate::places::Kind;
+use crate::places::charger_count;
+use crate::places::is_profile;
+use crate::places::is_vehicle;
+use crate::places::kind_at;
+use crate::places::profile_count;
+use crate::places::start_of;
+use crate::places::vehicle_count;
 ghost use mathlib.Core.Path.{_≡_};
 ghost use mathlib.Core.Bool.{not};
 ghost use Prim.Native.Nat.{_+_, _*_, _≤_, _<_};
 ghost use lib.ListN.{length, getD, take};
 ghost use Rattle.files.specs.Blocks.{passes, block as Blocks·block};
-ghost use Rattle.files.specs.Search.{first, every, holds, each};
+ghost use Rattle.files.specs.Search.{firstIndex, every, holds, each};
 ghost use Rattle.files.specs.Fields.{f64At};
-ghost use Rattle.files.specs.Plan.{kindAt, startOf, isProfile, isVehicle, countTests, fieldTests, newAmong, newSoc, broken as Plan·broken, rules, refusal as Plan·refusal, checkBlocks};
+ghost use Rattle.files.specs.Plan.{countTests, fieldTests, newSoc, broken as Plan·broken, rules, firstRefusal, checkBlocks};
+ghost use Rattle.files.specs.Code.Reading.{newAmong};
 
 // 113 blocks: a header, 16 profiles, 32 chargers and 64 vehicles.
 const LONGEST: usize = 57_856;
-
-// What a plan's blocks are refused for, in number order from 4.
-pub enum Rule {
-    Length,
-    Check,
-    Header,
-    Field,
-    NoPoint,
-    EqualSoc,
-    UsedId,
-    NoProfile,
-}
-
-// What a check answers: a rule refuses a block, by its place in the file; or a vehicle's block and a charger's cannot charge.
-pub enum Answer {
-    Fine,
-    Refused(Rule, usize),
-    CannotCharge(usize, usize),
-}
-
-// The kinds of blocks, in the plan's order.
-pub enum Kind {
-    Header,
-    Profile,
-    Charger,
-    Vehicle,
-}
-
-fn is_profile(kind: Kind) -> bool
-    ensures { λ r. ⌜ r ≡ isProfile kind ⌝ }
-{
-    match kind {
-        Kind::Header => false,
-        Kind::Profile => true,
-        Kind::Charger => false,
-        Kind::Vehicle => false,
-    }
-}
-
-fn is_vehicle(kind: Kind) -> bool
-    ensures { λ r. ⌜ r ≡ isVehicle kind ⌝ }
-{
-    match kind {
-        Kind::Header => false,
-        Kind::Profile => false,
-        Kind::Charger => false,
-        Kind::Vehicle => true,
-    }
-}
-
-// The kind of the block at the index k.
-fn kind_at(plan: &[u8], k: usize) -> Kind
-    requires { ⌜ 512 ≤ length (now plan) ⌝ }
-    ensures { λ r. ⌜ r ≡ kindAt (now (plan .entry)) k ⌝ }
-{
-    let p = u16_at(plan, 4);
-    let c = u16_at(plan, 6);
-    if k == 0 {
-        return Kind::Header;
-    }
-    if k <= p {
-        return Kind::Profile;
-    }
-    if k <= p + c {
-        return Kind::Charger;
-    }
-    Kind::Vehicle
-}
-
-// The index of the first block of a kind.
-fn start_of(plan: &[u8], kind: Kind) -> usize
-    requires { ⌜ 512 ≤ length (now plan) ⌝ }
-    ensures { λ r. ⌜ r ≡ startOf (now (plan .entry)) kind ⌝ }
-{
-    let p = u16_at(plan, 4);
-    let c = u16_at(plan, 6);
-    match kind {
-        Kind::Header => 0,
-        Kind::Profile => 1,
-        Kind::Charger => 1 + p,
-        Kind::Vehicle => 1 + p + c,
-    }
-}
 
 // 5: the block at the index k has not the check of its place.
 fn wrong_check(plan: &[u8], k: usize) -> bool
@@ -122,10 +50,14 @@ fn counts_ok(b: &[u8], blocks: usize) -> bool
     requires { ⌜ length (now b) ≡ 512 ⌝ }
     ensures { λ r. ⌜ r ≡ holds (countTests (now (b .entry)) blocks) ⌝ }
 {
-    let p = u16_at(b, 4);
-    let c = u16_at(b, 6);
-    let v = u16_at(b, 8);
-    letters_ok(b) & (p <= 16) & (c <= 32) & (v <= 64) & (1 + p + c + v == blocks)
+    let profiles = profile_count(b);
+    let chargers = charger_count(b);
+    let vehicles = vehicle_count(b);
+    letters_ok(b)
+        & (profiles <= 16)
+        & (chargers <= 32)
+        & (vehicles <= 64)
+        & (1 + profiles + chargers + vehicles == blocks)
 }
 
 // 7: every other field is within its limits, and unnamed and unused bytes are zero.
@@ -200,7 +132,7 @@ fn no_profile(plan: &[u8], k: usize) -> bool
     ensures { λ r. ⌜ r ≡ Plan·broken Rule.NoProfile (now (plan .entry)) k ⌝ }
 {
     let kind = kind_at(plan, k);
-    let end = 1 + u16_at(plan, 4);
+    let end = start_of(plan, Kind::Charger);
     let id = u32_at(block(plan, k), 4);
     if end <= k {
         is_vehicle(kind) & (with_id(plan, 1, end, id) == end)
@@ -231,7 +163,7 @@ fn broken(plan: &[u8], rule: Rule, k: usize) -> bool
 // The index of the first of the n blocks that the rule refuses; n where it refuses none.
 fn first_broken(plan: &[u8], rule: Rule, n: usize) -> usize
     requires { ⌜ (512 * n ≤ length (now plan)) × (length (now plan) ≤ 57856) ⌝ }
-    ensures { λ r. ⌜ (r ≡ first (Plan·broken rule (now (plan .entry))) 0 n) × (r ≤ n) ⌝ }
+    ensures { λ r. ⌜ (r ≡ firstIndex (Plan·broken rule (now (plan .entry))) 0 n) × (r ≤ n) ⌝ }
 {
     let mut k = 0;
     while k < n {
@@ -260,16 +192,16 @@ fn rule_at(i: usize) -> Rule
 }
 
 // The first refusal of the n blocks.
-fn refusal(plan: &[u8], n: usize) -> Answer
+fn first_refusal(plan: &[u8], n: usize) -> Answer
     requires { ⌜ (512 * n ≤ length (now plan)) × (length (now plan) ≤ 57856) ⌝ }
-    ensures { λ r. ⌜ r ≡ Plan·refusal rules (now (plan .entry)) n ⌝ }
+    ensures { λ r. ⌜ r ≡ firstRefusal rules (now (plan .entry)) n ⌝ }
 {
     let mut i = 0;
     while i < 7 {
         let rule = rule_at(i);
         let k = first_broken(plan, rule, n);
         if k < n {
-            return Answer::Refused(rule, k + 1);
+            return Answer::Refused(Refusal::Broken(rule, k + 1));
         }
         i += 1;
     }
@@ -282,7 +214,7 @@ pub fn check_blocks(plan: &[u8]) -> Answer
 {
     let n = plan.len();
     if (0 < n) & (n % 512 == 0) & (n <= LONGEST) {
-        return refusal(plan, n / 512);
+        return first_refusal(plan, n / 512);
     }
-    Answer::Refused(Rule::Length, 0)
+    Answer::Refused(Refusal::Broken(Rule::Length, 0))
 }

@@ -1,12 +1,17 @@
 // A plan read into what the engines work on. The plan's header says how many blocks of each kind follow.
 use crate::blocks::block;
 use crate::bytes::u8_at;
-use crate::bytes::u16_at;
 use crate::bytes::u32_at;
 use crate::bytes::u64_at;
 use crate::fields::f64_at;
 use crate::fields::point_count;
 use crate::ids::with_id;
+use crate::places::Kind;
+use crate::places::block_of;
+use crate::places::charger_count;
+use crate::places::profile_count;
+use crate::places::start_of;
+use crate::places::vehicle_count;
 use charger::charger::Charger;
 use charger::connector::connector_row;
 use charger::connector::connectors_of;
@@ -23,13 +28,14 @@ use engine::site::Site;
 ghost use mathlib.Core.Path.{_≡_};
 ghost use Prim.Native.Nat.{ℕ, _+_, _≤_, _<_};
 ghost use lib.ListN.{length, take};
-ghost use Rattle.curve.specs.Curve.{points};
-ghost use Rattle.charger.specs.Vehicle.{listed};
-ghost use Rattle.charger.specs.Profiles.{curveAt};
-ghost use Rattle.engine.specs.Code.{batteryAt};
+ghost use Rattle.curve.specs.Code.Rows.{points};
+ghost use Rattle.charger.specs.Code.Vehicles.{listed};
+ghost use Rattle.charger.specs.Code.Profiles.{curveAt};
+ghost use Rattle.engine.specs.Code.Simulation.{batteryAt};
 ghost use Rattle.files.specs.Search.{each};
-ghost use Rattle.files.specs.Fields.{chargerCount, vehicleCount};
-ghost use Rattle.files.specs.Read.{Counted, SiteRead, pointAt, curveOfProfile, batteryOf, codesAt, chargerOf, rowOfCharger, chargersOf, connectorsOf, profilePlace, vehicleOf, vehiclesOf, limitOf};
+ghost use Rattle.files.specs.Places.{chargerCount, vehicleCount};
+ghost use Rattle.files.specs.Code.Reading.{Counted, SiteRead};
+ghost use Rattle.files.specs.Read.{pointAt, curveOfProfile, batteryOf, codesAt, chargerOf, rowOfCharger, chargersOf, connectorRows, profileIndex, vehicleOf, vehiclesOf, limitOf};
 
 // Stores the first n points of a profile's block into rows.
 fn store_points(rows: &mut [[f64; 2]], b: &[u8], n: usize)
@@ -48,8 +54,8 @@ fn read_curve(rows: &mut [[f64; 2]], plan: &[u8], k: usize) -> usize
     requires { ⌜ (length (now rows) ≡ 32) × Counted (now plan) ⌝ }
     ensures { λ r. ⌜ (points (take r (now (rows .exit))) ≡ curveOfProfile (now (plan .entry)) k) × (r ≤ 32) ⌝ }
 {
-    if k < u16_at(plan, 4) {
-        let b = block(plan, 1 + k);
+    if k < profile_count(plan) {
+        let b = block_of(plan, Kind::Profile, k);
         let n = point_count(b);
         store_points(rows, b, n);
         return sort::new(rows, n);
@@ -76,8 +82,8 @@ fn read_battery(plan: &[u8], k: usize) -> Kwh
     requires { ⌜ Counted (now plan) ⌝ }
     ensures { λ r. ⌜ r ≡ batteryOf (now (plan .entry)) k ⌝ }
 {
-    if k < u16_at(plan, 4) {
-        return Kwh(f64_at(block(plan, 1 + k), 8));
+    if k < profile_count(plan) {
+        return Kwh(f64_at(block_of(plan, Kind::Profile, k), 8));
     }
     Kwh(0.0)
 }
@@ -120,8 +126,8 @@ pub fn read_chargers(plan: &[u8]) -> [Charger; 32]
     requires { ⌜ Counted (now plan) ⌝ }
     ensures { λ r. ⌜ take (chargerCount (now (plan .entry))) r ≡ chargersOf (now (plan .entry)) ⌝ }
 {
-    let start = 1 + u16_at(plan, 4);
-    let n = u16_at(plan, 6);
+    let start = start_of(plan, Kind::Charger);
+    let n = charger_count(plan);
     let none = Charger {
         max_power: Kw(0.0),
         current: Amperes(0.0),
@@ -147,10 +153,10 @@ fn read_row(b: &[u8]) -> [bool; 5]
 // Which charger has which connector: a row for each charger.
 pub fn read_connectors(plan: &[u8]) -> [[bool; 5]; 32]
     requires { ⌜ Counted (now plan) ⌝ }
-    ensures { λ r. ⌜ take (chargerCount (now (plan .entry))) r ≡ connectorsOf (now (plan .entry)) ⌝ }
+    ensures { λ r. ⌜ take (chargerCount (now (plan .entry))) r ≡ connectorRows (now (plan .entry)) ⌝ }
 {
-    let start = 1 + u16_at(plan, 4);
-    let n = u16_at(plan, 6);
+    let start = start_of(plan, Kind::Charger);
+    let n = charger_count(plan);
     let mut rows = [[false; 5]; 32];
     let mut i = 0;
     while i < n {
@@ -161,11 +167,11 @@ pub fn read_connectors(plan: &[u8]) -> [[bool; 5]; 32]
 }
 
 // The place of the first profile with the id.
-fn profile_place(plan: &[u8], id: u32) -> usize
+fn profile_index(plan: &[u8], id: u32) -> usize
     requires { ⌜ Counted (now plan) ⌝ }
-    ensures { λ r. ⌜ r ≡ profilePlace (now (plan .entry)) id ⌝ }
+    ensures { λ r. ⌜ r ≡ profileIndex (now (plan .entry)) id ⌝ }
 {
-    with_id(plan, 1, 1 + u16_at(plan, 4), id) - 1
+    with_id(plan, 1, start_of(plan, Kind::Charger), id) - 1
 }
 
 // The vehicle of a block, whose profile has the place.
@@ -193,8 +199,8 @@ pub fn read_vehicles(plan: &[u8]) -> VehicleList
     requires { ⌜ Counted (now plan) ⌝ }
     ensures { λ r. ⌜ (listed r ≡ vehiclesOf (now (plan .entry))) × (r .len ≡ vehicleCount (now (plan .entry))) ⌝ }
 {
-    let start = 1 + u16_at(plan, 4) + u16_at(plan, 6);
-    let n = u16_at(plan, 8);
+    let start = start_of(plan, Kind::Vehicle);
+    let n = vehicle_count(plan);
     let none = Vehicle {
         profile: 0,
         codes: [0; 5],
@@ -210,7 +216,7 @@ pub fn read_vehicles(plan: &[u8]) -> VehicleList
     let mut i = 0;
     while i < n {
         let b = block(plan, start + i);
-        all[i] = read_vehicle(b, profile_place(plan, u32_at(b, 4)));
+        all[i] = read_vehicle(b, profile_index(plan, u32_at(b, 4)));
         i += 1;
     }
     VehicleList { all, len: n }
@@ -235,7 +241,7 @@ pub fn read_site(plan: &[u8]) -> Site
     Site {
         vehicles: read_vehicles(plan),
         chargers: read_chargers(plan),
-        count: u16_at(plan, 6),
+        count: charger_count(plan),
         batteries: read_batteries(plan),
         limit: read_limit(plan),
     }

@@ -1,6 +1,6 @@
 // The counts of a run at its stop.
+use crate::answer::Totals;
 use crate::book_session::outcome_number;
-use crate::call::Totals;
 use engine::events::EventQueue;
 use engine::events::EventType;
 use engine::session::Sessions;
@@ -9,9 +9,9 @@ ghost use mathlib.Core.Path.{_≡_};
 ghost use Prim.Native.Nat.{_≤_};
 ghost use lib.Dec.{eqb};
 ghost use Rattle.charger.specs.Lists.{tick};
-ghost use Rattle.charger.specs.Queue.{waiting};
-ghost use Rattle.engine.specs.Code.{pending, booked, Sound};
-ghost use Rattle.engine.specs.Demand.{isArrival, yetToArrive, sessionsOf};
+ghost use Rattle.charger.specs.Code.Queue.{waiting};
+ghost use Rattle.engine.specs.Code.Simulation.{pending, booked, Sound};
+ghost use Rattle.engine.specs.Demand.{isArrival, yetToArrive, sessionsWith};
 ghost use Rattle.files.specs.Totals.{counted};
 
 fn arrival_tick(kind: EventType) -> u64
@@ -51,7 +51,7 @@ fn same_tick(a: u8, b: u8) -> u64
 // How many sessions have the outcome of that number.
 fn of_outcome(sessions: Sessions, number: u8) -> u64
     requires { ⌜ sessions .len ≤ 64 ⌝ }
-    ensures { λ r. ⌜ r ≡ sessionsOf number (booked sessions) ⌝ }
+    ensures { λ r. ⌜ r ≡ sessionsWith number (booked sessions) ⌝ }
 {
     let all = sessions.all;
     let n = sessions.len;

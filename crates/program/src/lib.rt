@@ -1,11 +1,15 @@
 // What the program writes for an input: an engine byte, a 32-bit allowance and a plan give the book's blocks, or the refusal.
+use files::answer::run_numbers;
 use files::call::run;
-use files::numbers::run_numbers;
-use libc::STDOUT_FILENO;
 ghost use mathlib.Core.Path.{_≡_};
+ghost use mathlib.Core.List.{[], _∷_, _++_};
 ghost use Prim.Native.Nat.{_+_, _*_, _/_, _≤_, _<_};
-ghost use lib.ListN.{drop};
+ghost use lib.ListN.{length, take};
+ghost use lib.Seq.{sets};
+ghost use Rattle.io.specs.Counts.{Counts};
 ghost use Rattle.files.specs.Bytes.{leAt};
+ghost use Rattle.files.specs.Book.{sessionCount, written};
+ghost use Rattle.program.specs.Output.{allowanceOf, planOf, decimal, line, output};
 
 // The byte at k; missing bytes are zero.
 fn byte_at(input: &[u8], k: usize) -> u32
@@ -15,7 +19,7 @@ fn byte_at(input: &[u8], k: usize) -> u32
 }
 
 fn allowance_of(input: &[u8]) -> u32
-    ensures { λ r. ⌜ r ≡ leAt 4 (now (input .entry)) 1 ⌝ }
+    ensures { λ r. ⌜ r ≡ allowanceOf (now (input .entry)) ⌝ }
 {
     byte_at(input, 1)
         + 256 * byte_at(input, 2)
@@ -25,55 +29,68 @@ fn allowance_of(input: &[u8]) -> u32
 
 // What follows the first five bytes.
 fn plan_of(input: &[u8]) -> &[u8]
-    ensures { λ r. ⌜ now r ≡ drop 5 (now (input .entry)) ⌝ }
+    ensures { λ r. ⌜ now r ≡ planOf (now (input .entry)) ⌝ }
 {
     let n = input.len();
     if 5 <= n { &input[5..n] } else { &input[n..n] }
 }
 
 // The bytes of a book's blocks: five sessions a block after the header.
-fn book_length(sessions: u64) -> usize
-    requires { ⌜ sessions ≤ 64 ⌝ }
-    ensures { λ r. ⌜ (r ≡ 512 + 512 * ((sessions + 4) / 5)) × (r ≤ 7168) ⌝ }
+fn book_length(book: &[u8]) -> usize
+    ensures { λ r. ⌜ r ≡ 512 + 512 * ((sessionCount (now (book .entry)) + 4) / 5) ⌝ }
 {
-    512 + 512 * ((sessions + 4) / 5) as usize
+    let sessions = byte_at(book, 4) + 256 * byte_at(book, 5);
+    512 + 512 * ((sessions as usize + 4) / 5)
 }
 
-// A refusal's number and places in decimal, with single spaces and a newline.
-fn print_refusal(number: u64, first: u64, second: u64) {
-    io::print_decimal(STDOUT_FILENO, number);
-    io::write_all(STDOUT_FILENO, b" ");
-    io::print_decimal(STDOUT_FILENO, first);
-    io::write_all(STDOUT_FILENO, b" ");
-    io::print_decimal(STDOUT_FILENO, second);
-    io::write_all(STDOUT_FILENO, b"\n");
-}
-
-// The eleven numbers and the book, as the program writes them.
-fn print_answer(numbers: [u64; 11], book: &[u8]) {
-    if numbers[0] != 0 {
-        print_refusal(numbers[0], numbers[1], numbers[2]);
-        return;
-    }
-    let plugged = std::num::wrapping_add_u64(numbers[7], numbers[8]);
-    let left = std::num::wrapping_add_u64(numbers[9], numbers[10]);
-    let sessions = std::num::wrapping_add_u64(plugged, left);
-    if sessions <= 64 {
-        let end = book_length(sessions);
-        if end <= book.len() {
-            io::write_all(STDOUT_FILENO, &book[..end]);
-        }
+// Stores bytes into out from at.
+fn put(out: &mut [u8], at: usize, bytes: &[u8])
+    requires { ⌜ at + length (now bytes) ≤ length (now out) ⌝ }
+    ensures { λ _. ⌜ now (out .exit) ≡ sets (now (out .entry)) at (now (bytes .entry)) ⌝ }
+{
+    let mut i = 0;
+    while i < bytes.len() {
+        out[at + i] = bytes[i];
+        i += 1;
     }
 }
 
-// Runs the input's plan, and writes what came of it to standard output.
-pub fn answer(input: &[u8]) {
-    let mut book = [0u8; 7168];
-    let answer = run(
-        plan_of(input),
-        byte_at(input, 0),
-        allowance_of(input),
-        &mut book,
-    );
-    print_answer(run_numbers(answer), &book);
+// Stores a number in decimal and the byte `last` into out from at, and gives the place behind them.
+fn put_decimal(out: &mut [u8], at: usize, n: u64, last: u8) -> usize
+    requires { ⌜ at + 21 ≤ length (now out) ⌝ }
+    ensures bounded { λ r. ⌜ r ≤ at + 21 ⌝ }
+    ensures place { λ r. ⌜ r ≡ at + length (decimal n ++ (last ∷ [])) ⌝ }
+    ensures stored { λ r. ⌜ now (out .exit) ≡ sets (now (out .entry)) at (decimal n ++ (last ∷ [])) ⌝ }
+{
+    let mut digits = [0u8; 20];
+    let k = io::decimal(n, &mut digits);
+    put(out, at, &digits[..k]);
+    out[at + k] = last;
+    at + k + 1
+}
+
+// Stores a refusal's line, number and places, into out, and gives its length.
+fn put_line(out: &mut [u8], numbers: [u64; 11]) -> usize
+    requires { ⌜ 63 ≤ length (now out) ⌝ }
+    ensures length { λ r. ⌜ r ≡ length (line numbers) ⌝ }
+    ensures stored { λ r. ⌜ now (out .exit) ≡ written (line numbers) (now (out .entry)) ⌝ }
+{
+    let first = put_decimal(out, 0, numbers[0], b' ');
+    let second = put_decimal(out, first, numbers[1], b' ');
+    put_decimal(out, second, numbers[2], b'\n')
+}
+
+// Runs the input's plan. The first bytes of out, as many as the answer says, are the program's output; the others stay.
+pub fn reply(input: &[u8], out: &mut [u8; 7168]) -> usize
+    ensures counted { λ r. ⌜ Counts r (now (out .exit)) ⌝ }
+    ensures text { λ r. ⌜ take r (now (out .exit)) ≡ output (now (input .entry)) ⌝ }
+    ensures whole { λ r. ⌜ now (out .exit) ≡ written (output (now (input .entry))) (now (out .entry)) ⌝ }
+{
+    let plan = plan_of(input);
+    let answer = run(plan, byte_at(input, 0), allowance_of(input), out);
+    let numbers = run_numbers(answer);
+    if numbers[0] == 0 {
+        return book_length(out);
+    }
+    put_line(out, numbers)
 }

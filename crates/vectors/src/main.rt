@@ -1,10 +1,13 @@
 // Replays recorded inputs. Standard input holds them, each as changes to the one before; standard output is what the program writes for
 // each. The record: a 32-bit number of inputs; for each its 32-bit length, a 16-bit number of changes, and the changes: a 16-bit place, a
 // byte count, and as many bytes. All of its numbers are below 65,536.
+use libc::STDERR_FILENO;
 use libc::STDIN_FILENO;
-ghost use Prim.Native.Nat.{_<_};
+use libc::STDOUT_FILENO;
+ghost use Prim.Native.Nat.{_≤_, _<_};
+ghost use lib.ListN.{length};
 
-fn wide(x: u8) -> usize
+fn byte_value(x: u8) -> usize
     ensures { λ r. ⌜ r < 256 ⌝ }
 {
     x as usize
@@ -15,7 +18,7 @@ fn byte_at(recorded: &[u8], k: usize) -> usize
     ensures { λ r. ⌜ r < 256 ⌝ }
 {
     if k < recorded.len() {
-        wide(recorded[k])
+        byte_value(recorded[k])
     } else {
         0
     }
@@ -65,9 +68,14 @@ fn change(buffer: &mut [u8], recorded: &[u8], at: usize, changes: usize) -> usiz
     k
 }
 
-fn answer_first(buffer: &[u8], count: usize) {
-    if count <= buffer.len() {
-        program::answer(&buffer[..count]);
+// Writes what the program writes for the first `count` bytes.
+fn answer_first(buffer: &[u8], count: usize)
+    requires { ⌜ count ≤ length (now buffer) ⌝ }
+{
+    let mut out = [0u8; 7168];
+    let n = program::reply(&buffer[..count], &mut out);
+    if !io::write_all(STDOUT_FILENO, &out[..n]) {
+        io::write_all(STDERR_FILENO, b"vectors: cannot write standard output\n");
     }
 }
 

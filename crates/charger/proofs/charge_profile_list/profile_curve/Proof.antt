@@ -4,7 +4,7 @@ use Prim.Native.Nat.{ℕ, _+_, _*_, _<_}
 use native.Mathlib.Omega.{arith}
 use denote.Ref.{now}
 use lib.ListN.{length, getD}
-use Rattle.charger.proofs.Profiles.{inside, past, too-short}
+use Rattle.charger.proofs.charge_profile_list.Profiles.{inside, past, too-short}
 use borrow.Author.Needs.{needs}
 use Rattle.charger.proofs.charge_profile_list.profile_curve.Statement.{statement}
 use Rattle.charger.proofs.charge_profile_list.profile_curve.Tie as tie
@@ -29,11 +29,11 @@ returns-2 c =
 mul-start : tie.Need-mul-start
 mul-start c = search needs
 
-shared-slice-read-wide : tie.Need-shared-slice-read-wide
-shared-slice-read-wide c = search needs
+shared-slice-read-place-of : tie.Need-shared-slice-read-place-of
+shared-slice-read-place-of c = search needs
 
-wide-requires : tie.Need-wide-requires
-wide-requires c κs = search needs
+place-of-requires : tie.Need-place-of-requires
+place-of-requires c κs = search needs
 
 add-end : tie.Need-add-end
 add-end c = omega (arith, c .before .shared-slice-known2 .given (c .before .before .before .before .before .args .profile))
@@ -45,7 +45,7 @@ returns-3 : tie.Need-returns-3
 returns-3 c =
     let at = c .before .before in
     let a = at .before .before .before .before .before .args in
-    let short : length (now (a .curves)) < 32 * a .profile + getD (now (a .lens)) (a .profile) 0 = omega (arith, at .wide .ensures) in
+    let short : length (now (a .curves)) < 32 * a .profile + getD (now (a .lens)) (a .profile) 0 = omega (arith, at .place-of .ensures) in
     sym (too-short (now (a .curves)) (now (a .lens)) (a .profile) (at .before .before .before .if1 .left) short)
 
 mul-result : tie.Need-mul-result
@@ -64,7 +64,7 @@ returns-4 : tie.Need-returns-4
 returns-4 c =
     let at = c .before .before in
     let a = at .before .before .before .before .before .args in
-    sym (inside (now (a .curves)) (now (a .lens)) (a .profile) _ (at .before .before .before .if1 .left) (ap (λ (n : ℕ). 32 * a .profile + n) (at .wide .ensures)) (c .before .if3 .left))
+    sym (inside (now (a .curves)) (now (a .lens)) (a .profile) _ (at .before .before .before .if1 .left) (ap (λ (n : ℕ). 32 * a .profile + n) (at .place-of .ensures)) (c .before .if3 .left))
 
 pub profile-curve-spec : {M : Type 1} → statement M
 profile-curve-spec =
@@ -75,8 +75,8 @@ profile-curve-spec =
     slice-aggregate-result-2
     returns-2
     mul-start
-    shared-slice-read-wide
-    wide-requires
+    shared-slice-read-place-of
+    place-of-requires
     add-end
     slice-aggregate-result-3
     returns-3

@@ -3,7 +3,7 @@ use mathlib.Core.Path.{ap, _∙_}
 use lib.ListN.{take}
 use Rattle.charger.specs.declared.connector.Connectors.{Connectors}
 use Rattle.charger.specs.Connector.{rowOf}
-use Rattle.charger.proofs.Rows.{connectors-listed}
+use Rattle.charger.proofs.connector.Rows.{connectors-listed}
 use borrow.Author.Needs.{needs}
 use Rattle.charger.proofs.connector.connector_row.Statement.{statement}
 use Rattle.charger.proofs.connector.connector_row.Tie as tie

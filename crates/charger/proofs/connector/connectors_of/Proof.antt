@@ -1,5 +1,5 @@
 -- `connector::connectors_of` meets its contract, for a count of 0 and for any other. Assumes nothing.
-use Rattle.charger.proofs.Rows.{connectors-some}
+use Rattle.charger.proofs.connector.Rows.{connectors-some}
 use Rattle.charger.proofs.connector.connectors_of.Statement.{statement}
 use Rattle.charger.proofs.connector.connectors_of.Tie as tie
 

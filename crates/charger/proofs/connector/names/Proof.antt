@@ -6,8 +6,8 @@ use borrow.Author.Tests.{eq-eqb, ne-eqb}
 use native.Mathlib.Omega.{arith}
 use lib.ListN.{length, take}
 use Rattle.charger.specs.Connector.{contains}
-use Rattle.charger.specs.Queue.{part}
-use Rattle.charger.proofs.Part.{part-next, part-end, part-past}
+use Rattle.charger.specs.Code.Queue.{part}
+use Rattle.charger.proofs.waiting_queue.Part.{part-next, part-end, part-past}
 use Rattle.charger.proofs.connector.names.Statement.{statement}
 use Rattle.charger.proofs.connector.names.Tie as tie
 

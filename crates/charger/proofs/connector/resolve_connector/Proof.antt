@@ -5,8 +5,8 @@ use borrow.Author.Needs.{needs}
 use native.Mathlib.Omega.{arith}
 use lib.ListN.{length, take}
 use Rattle.charger.specs.Connector.{resolve}
-use Rattle.charger.specs.Queue.{part}
-use Rattle.charger.proofs.Part.{part-next, part-end, part-past}
+use Rattle.charger.specs.Code.Queue.{part}
+use Rattle.charger.proofs.waiting_queue.Part.{part-next, part-end, part-past}
 use Rattle.charger.proofs.connector.resolve_connector.Statement.{statement}
 use Rattle.charger.proofs.connector.resolve_connector.Tie as tie
 

@@ -4,7 +4,7 @@ use Prim.Native.Nat.{_≤_, _<_, _-_, _+_}
 use borrow.Author.Needs.{needs}
 use native.Mathlib.Omega.{arith}
 use lib.ListN.{length, length-set}
-use Rattle.charger.proofs.Part.{Closing, closing-start, closing-more}
+use Rattle.charger.proofs.waiting_queue.Part.{Closing, closing-start, closing-more}
 use Rattle.charger.proofs.waiting_queue.closed_up.Statement.{statement}
 use Rattle.charger.proofs.waiting_queue.closed_up.Tie as tie
 

@@ -7,9 +7,10 @@ use lib.ListN.{length, drop}
 use lib.Ieee.{ofBits}
 use borrow.Author.Needs.{needs}
 use Rattle.curve.specs.F64.{ratio}
-use Rattle.curve.specs.Curve.{points, passed, along, walk, integrateOver}
-use Rattle.curve.proofs.Walk.{no-segment, first-segment, passed-reached, next-segment, last-segment}
-use Rattle.curve.proofs.Laws.{stays}
+use Rattle.curve.specs.Code.Rows.{points, passed, walk}
+use Rattle.curve.specs.Curve.{along, integrateOver}
+use Rattle.curve.proofs.charge_profile.Segments.{no-segment, first-segment, passed-reached, next-segment, last-segment}
+use Rattle.curve.proofs.charge_profile.Laws.{stays}
 use Rattle.curve.proofs.charge_profile.integrate_over.Statement.{statement}
 use Rattle.curve.proofs.charge_profile.integrate_over.Tie as tie
 

@@ -2,13 +2,13 @@
 use mathlib.Core.Path.{_∙_}
 use native.Mathlib.Omega.{arith}
 use Rattle.curve.specs.Curve.{powerAt}
-use Rattle.curve.proofs.Walk.{reached-bounded, reached-from}
+use Rattle.curve.proofs.charge_profile.Segments.{reached-bounded, reached-from}
 use borrow.Author.Needs.{needs}
 use Rattle.curve.proofs.charge_profile.locate_from.Statement.{statement}
 use Rattle.curve.proofs.charge_profile.locate_from.Tie as tie
 
-segment-from-requires : tie.Need-segment-from-requires
-segment-from-requires c κs = omega (arith, reached-bounded (c .args .curve .now) (c .args .soc))
+reached-from-requires : tie.Need-reached-from-requires
+reached-from-requires c κs = omega (arith, reached-bounded (c .args .curve .now) (c .args .soc))
 
 power-after-requires : tie.Need-power-after-requires
 power-after-requires c κs = search needs
@@ -17,8 +17,8 @@ returns : tie.Need-returns
 unfolding powerAt
 returns c =
     let start = c .before .before in
-    let found = c .before .segment-from .ensures .1 ∙ reached-from (start .args .soc) (start .args .curve .now) (start .args .i) (start .pre) in
+    let found = c .before .reached-from .ensures .1 ∙ reached-from (start .args .soc) (start .args .curve .now) (start .args .i) (start .pre) in
     rw (c .power-after .ensures, found)
 
 pub locate-from-spec : {M : Type 1} → statement M
-locate-from-spec = tie.close (tie.spec segment-from-requires power-after-requires returns)
+locate-from-spec = tie.close (tie.spec reached-from-requires power-after-requires returns)

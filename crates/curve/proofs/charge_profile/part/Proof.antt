@@ -19,11 +19,8 @@ from-start-requires c κs = ap (λ (w : Walk). w .place) (c .before .before .bef
 onward-requires : tie.Need-onward-requires
 onward-requires c κs = rw (c .before .before .max .ensures) (c .from-start .ensures)
 
-min-requires-2 : tie.Need-min-requires-2
-min-requires-2 c κs = search needs
-
-min-requires-3 : tie.Need-min-requires-3
-min-requires-3 c κs = search needs
+average-requires : tie.Need-average-requires
+average-requires c κs = search needs
 
 max-requires-2 : tie.Need-max-requires-2
 max-requires-2 c κs = search needs
@@ -31,12 +28,11 @@ max-requires-2 c κs = search needs
 returns : tie.Need-returns
 unfolding ofBits ratio
 returns c =
-    let at-min3 = c .before .before .before in
-    let at-min2 = at-min3 .before in
-    let at-onward = at-min2 .before .before in
+    let at-average = c .before .before .before in
+    let at-onward = at-average .before .before in
     let at-from = at-onward .before in
     let at-min = at-from .before in
-    simp (c .max2 .ensures, at-min3 .min3 .ensures, at-min2 .min2 .ensures, at-onward .onward .ensures, at-from .from-start .ensures, at-min .min .ensures, at-min .before .max .ensures)
+    simp (c .max2 .ensures, at-average .average .ensures, at-onward .onward .ensures, at-from .from-start .ensures, at-min .min .ensures, at-min .before .max .ensures)
 
 pub part-spec : {M : Type 1} → statement M
 part-spec =
@@ -46,7 +42,6 @@ part-spec =
     min-requires
     from-start-requires
     onward-requires
-    min-requires-2
-    min-requires-3
+    average-requires
     max-requires-2
     returns)

@@ -4,8 +4,8 @@ use mathlib.Core.Path.{_≡_}
 use native.Mathlib.Omega.{arith}
 use borrow.Author.Tests.{not-true, not-false}
 use lib.ListN.{length, drop}
-use Rattle.curve.specs.Curve.{points, passed}
-use Rattle.curve.proofs.Walk.{passed-below, passed-not, passed-end}
+use Rattle.curve.specs.Code.Rows.{points, passed}
+use Rattle.curve.proofs.charge_profile.Segments.{passed-below, passed-not, passed-end}
 use Rattle.curve.proofs.charge_profile.passed.Statement.{statement}
 use Rattle.curve.proofs.charge_profile.passed.Tie as tie
 

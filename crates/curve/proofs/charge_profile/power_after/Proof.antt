@@ -3,7 +3,7 @@ use mathlib.Core.Path.{sym}
 use lib.Arith.{lt-of-le-ne}
 use lib.Ieee.{ofBits}
 use Rattle.curve.specs.F64.{ratio}
-use Rattle.curve.proofs.Walk.{power-of-none, power-before, power-past, power-between}
+use Rattle.curve.proofs.charge_profile.Segments.{power-of-none, power-before, power-past, power-between}
 use borrow.Author.Needs.{needs}
 use Rattle.curve.proofs.charge_profile.power_after.Statement.{statement}
 use Rattle.curve.proofs.charge_profile.power_after.Tie as tie

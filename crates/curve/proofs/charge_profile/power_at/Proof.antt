@@ -4,15 +4,15 @@ use borrow.Author.Needs.{needs}
 use Rattle.curve.proofs.charge_profile.power_at.Statement.{statement}
 use Rattle.curve.proofs.charge_profile.power_at.Tie as tie
 
-segment-in-requires : tie.Need-segment-in-requires
-segment-in-requires c κs = search needs
+reached-by-points-requires : tie.Need-reached-by-points-requires
+reached-by-points-requires c κs = search needs
 
 power-after-requires : tie.Need-power-after-requires
 power-after-requires c κs = search needs
 
 returns : tie.Need-returns
 unfolding powerAt
-returns c = rw (c .power-after .ensures, c .before .segment-in .ensures .1)
+returns c = rw (c .power-after .ensures, c .before .reached-by-points .ensures .1)
 
 pub power-at-spec : {M : Type 1} → statement M
-power-at-spec = tie.close (tie.spec segment-in-requires power-after-requires returns)
+power-at-spec = tie.close (tie.spec reached-by-points-requires power-after-requires returns)

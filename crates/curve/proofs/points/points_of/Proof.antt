@@ -3,13 +3,13 @@ use Prim.Native.Nat.{_≤_, _-_}
 use mathlib.Core.Path.{_≡_, refl}
 use native.Mathlib.Omega.{arith}
 use lib.ListN.{length, take, length-set}
-use Rattle.curve.specs.Curve as Curve
-use Rattle.curve.proofs.Rows.{one-more, all-stored}
+use Rattle.curve.specs.Code.Rows as Rows
+use Rattle.curve.proofs.points.Rows.{one-more, all-stored}
 use Rattle.curve.proofs.points.points_of.Statement.{statement}
 use Rattle.curve.proofs.points.points_of.Tie as tie
 
 abbrev Inv-loop : tie.InvT-loop
-Inv-loop rows points₀ i₀ points i = (i ≤ length rows) × (length points ≡ 32) × (take i points ≡ Curve.points (take i rows))
+Inv-loop rows points₀ i₀ points i = (i ≤ length rows) × (length points ≡ 32) × (take i points ≡ Rows.points (take i rows))
 
 abbrev μ-loop : tie.MeasureT-loop
 μ-loop rows points₀ i₀ points i = length rows - i

@@ -1,5 +1,5 @@
 -- `engine::alone::next` meets its contract.
-use Rattle.engine.proofs.OneCar.{same-again}
+use Rattle.engine.proofs.alone.OneCar.{same-again}
 use borrow.Author.Needs.{needs}
 use Rattle.engine.proofs.alone.next.Statement.{statement}
 use Rattle.engine.proofs.alone.next.Tie as tie

@@ -2,7 +2,8 @@
 use mathlib.Core.Path.{sym, _∙_}
 use lib.Ieee.{ofBits}
 use Rattle.curve.specs.F64.{ratio}
-use Rattle.engine.proofs.OneCar.{not-true, least-first, least-second, scaled-round, plain-round}
+use Rattle.engine.specs.Code.Alone.{capAlone}
+use Rattle.engine.proofs.alone.OneCar.{not-true, least-first, least-second, scaled-round, plain-round}
 use borrow.Author.Needs.{needs}
 use Rattle.engine.proofs.alone.round.Statement.{statement}
 use Rattle.engine.proofs.alone.round.Tie as tie
@@ -32,8 +33,9 @@ returns c =
     let asked = charging .before .before .before in
     let a = asked .before .args in
     rw (c .delivered .ensures, c .before .with-cap .ensures, asked .with-request .ensures)
-    (plain-round (a .limit) (a .power) (a .s) (a .s .rated .0)
+    (plain-round (a .limit) (a .power) (a .s)
     (sym (charging .before .is-charging .ensures) ∙ charging .if1 .taken)
+    (a .s .rated .0)
     (least-second (a .power .0) (a .s .rated .0) (above .if2 .taken))
     (not-true _ (rw (scaled .scaling .ensures) at (more .if3 .taken))))
 
@@ -57,8 +59,9 @@ returns-2 c =
     let asked = charging .before .before .before in
     let a = asked .before .args in
     rw (c .by-cap .ensures, asked .with-request .ensures, scaled .scaling2 .ensures)
-    (scaled-round (a .limit) (a .power) (a .s) (a .power .0)
+    (scaled-round (a .limit) (a .power) (a .s)
     (sym (charging .before .is-charging .ensures) ∙ charging .if1 .taken)
+    (a .power .0)
     (least-first (a .power .0) (a .s .rated .0) (sym (small .before .within .ensures) ∙ small .if4 .taken))
     (rw (scaled .scaling2 .ensures) at (less .if5 .taken))
     (rw (scaled .scaling2 .ensures) at (below .if6 .taken)))
@@ -79,8 +82,9 @@ returns-3 c =
     let asked = charging .before .before .before in
     let a = asked .before .args in
     rw (c .delivered2 .ensures, c .before .with-cap2 .ensures, asked .with-request .ensures)
-    (plain-round (a .limit) (a .power) (a .s) (a .power .0)
+    (plain-round (a .limit) (a .power) (a .s)
     (sym (charging .before .is-charging .ensures) ∙ charging .if1 .taken)
+    (a .power .0)
     (least-first (a .power .0) (a .s .rated .0) (sym (small .before .within .ensures) ∙ small .if4 .taken))
     (rw (scaled .scaling2 .ensures) at (more .if5 .left)))
 
@@ -90,15 +94,19 @@ draw-requires c κs = search needs
 scaling-requires-3 : tie.Need-scaling-requires-3
 scaling-requires-3 c κs = search needs
 
+cap-of-requires : tie.Need-cap-of-requires
+cap-of-requires c κs = search needs
+
 advanced-requires : tie.Need-advanced-requires
 advanced-requires c κs = search needs
 
 returns-4 : tie.Need-returns-4
-unfolding ofBits ratio
+unfolding ofBits ratio capAlone
 returns-4 c =
-    let drawn = c .before .before in
+    let scaled = c .before .before in
+    let drawn = scaled .before in
     let asked = drawn .before .before .before .before in
-    rw (c .advanced .ensures, c .before .scaling3 .ensures, drawn .draw .ensures, asked .with-request .ensures)
+    rw (c .advanced .ensures, c .before .cap-of .ensures, scaled .scaling3 .ensures, drawn .draw .ensures, asked .with-request .ensures)
 
 pub round-spec : {M : Type 1} → statement M
 round-spec =
@@ -119,5 +127,6 @@ round-spec =
     returns-3
     draw-requires
     scaling-requires-3
+    cap-of-requires
     advanced-requires
     returns-4)

@@ -5,12 +5,12 @@ use mathlib.Core.List.{[], _∷_}
 use Prim.Native.Nat.{_-_, _≤_}
 use native.Mathlib.Omega.{arith}
 use lib.Dec.{ltb}
-use Rattle.charger.specs.Profiles.{curveAt}
+use Rattle.charger.specs.Code.Profiles.{curveAt}
 use Rattle.engine.specs.ChargerState.{isFree}
-use Rattle.engine.specs.Power.{spin}
-use Rattle.engine.specs.Alone.{Settled}
-use Rattle.engine.proofs.OneCar.{stays-busy, one-finished, one-more, settles}
-use Rattle.engine.proofs.SpinRounds.{spin-out}
+use Rattle.engine.specs.Code.Rounds.{spin}
+use Rattle.engine.specs.Code.Alone.{CapMatchesRequest}
+use Rattle.engine.proofs.alone.OneCar.{stays-busy, one-finished, one-more, cap-matches}
+use Rattle.engine.proofs.power.SpinRounds.{spin-out}
 use borrow.Author.Needs.{needs}
 use Rattle.engine.proofs.alone.rounds.Statement.{statement}
 use Rattle.engine.proofs.alone.rounds.Tie as tie
@@ -19,7 +19,7 @@ abbrev Inv-loop : tie.InvT-loop
 Inv-loop curves lens limit count s₀ segment₀ k₀ s segment k =
     (k ≤ count) × (isFree (s .status) ≡ false)
     × (spin limit (curveAt curves lens) k (count - k) (s ∷ []) ≡ spin limit (curveAt curves lens) 0 count (s₀ ∷ []))
-    × (ltb 0 k ≡ true → Settled limit s)
+    × (ltb 0 k ≡ true → CapMatchesRequest limit s)
 
 abbrev μ-loop : tie.MeasureT-loop
 μ-loop curves lens limit count s₀ segment₀ k₀ s segment k = count - k
@@ -29,8 +29,8 @@ loop-holds c =
     let all : c .before .args .count - 0 ≡ c .before .args .count = omega arith in
     (omega arith, c .before .pre .0, rw all, λ first. absurd (true≢false (sym first)))
 
-profile-place-requires : tie.Need-profile-place-requires Inv-loop μ-loop
-profile-place-requires c κs = c .before .before .before .pre .1 .rises _
+place-on-curve-requires : tie.Need-place-on-curve-requires Inv-loop μ-loop
+place-on-curve-requires c κs = c .before .before .before .pre .1 .rises _
 
 next-requires : tie.Need-next-requires Inv-loop μ-loop
 next-requires c κs = c .before .before .before .loop .inv .3
@@ -48,7 +48,7 @@ returns c =
     let at-loop = at-place .before .before in
     let inv = at-loop .loop .inv in
     sym
-    (one-finished _ _ (at-loop .loop .k) _ (at-loop .loop .s) (at-next .next .result) (inv .1) (rw (at-place .profile-place .ensures) at (at-next .next .ensures))
+    (one-finished _ _ (at-loop .loop .k) _ (at-loop .loop .s) (at-next .next .result) (inv .1) (rw (at-place .place-on-curve .ensures) at (at-next .next .ensures))
     (at-place .before .loop-test .taken) (sym (c .before .is-finished .ensures) ∙ c .if1 .taken))
     ∙ inv .2
 
@@ -63,12 +63,12 @@ loop-again c =
     let inv = at-loop .loop .inv in
     let a = at-loop .before .before .args in (
       omega arith,
-      rw (at-next .next .ensures) (stays-busy (a .limit) (curveAt (a .curves .now) (a .lens .now)) _ (at-loop .loop .s) (inv .1)),
+      rw (at-next .next .ensures) (stays-busy (a .limit) _ (at-loop .loop .s) (inv .1)),
       sym
-          (one-more _ _ (at-loop .loop .k) _ (at-loop .loop .s) (at-next .next .result) (inv .1) (rw (at-place .profile-place .ensures) at (at-next .next .ensures))
+          (one-more _ _ (at-loop .loop .k) _ (at-loop .loop .s) (at-next .next .result) (inv .1) (rw (at-place .place-on-curve .ensures) at (at-next .next .ensures))
           (at-place .before .loop-test .taken) (sym (c .before .is-finished .ensures) ∙ c .if1 .left))
           ∙ inv .2,
-      λ later. rw (at-next .next .ensures) (settles (a .limit) _ (at-loop .loop .s)),
+      λ later. rw (at-next .next .ensures) (cap-matches (a .limit) _ (at-loop .loop .s)),
     )
 
 returns-2 : tie.Need-returns-2 Inv-loop μ-loop
@@ -81,7 +81,7 @@ rounds-spec =
     Inv-loop
     μ-loop
     loop-holds
-    profile-place-requires
+    place-on-curve-requires
     next-requires
     add-k
     is-finished-requires

@@ -17,7 +17,7 @@ same-length-2 c = search needs
 
 returns : tie.Need-returns
 unfolding empty ratio ofBits
-returns c = c .before .before .before .before .store .ensures
+returns c = c .before .before .store .ensures
 
 pub clear-spec : {M : Type 1} → statement M
 clear-spec = tie.close (tie.spec store-requires same-length same-length-2 returns)

@@ -5,12 +5,14 @@ use Prim.Native.Nat.{_≤_}
 use native.Mathlib.Omega.{arith}
 use denote.Ref.{now}
 use lib.ListN.{length, length-take}
-use Rattle.charger.specs.Vehicle.{noVehicle, vehicleAt, listed}
-use Rattle.charger.proofs.Part.{length-mapped}
+use Rattle.charger.specs.Vehicle.{noVehicle, vehicleAt}
+use Rattle.charger.specs.Code.Vehicles.{listed}
+use Rattle.charger.proofs.waiting_queue.Part.{length-mapped}
 use Rattle.engine.specs.Plan.{rated, output}
-use Rattle.engine.specs.Code.{planOf}
-use Rattle.engine.proofs.At.{at-inside, at-past}
+use Rattle.engine.specs.Code.Simulation.{planOf}
+use Rattle.engine.proofs.site.At.{at-inside, at-past}
 use borrow.Author.Needs.{needs}
+use Rattle.engine.proofs.discrete.EventStates.{session-of}
 use Rattle.engine.proofs.discrete.charge.Statement.{statement}
 use Rattle.engine.proofs.discrete.charge.Tie as tie
 
@@ -57,8 +59,8 @@ returns c =
     let charger = row .before in
     let joined = charger .before .before .before in
     let a = joined .before .before .before .before .args in
-    c .session-of .ensures (planOf (a .site) (a .rows) (now (a .curves)) (now (a .lens))) (vehicle-read joined)
-    (charging .charging-output .ensures ∙ rw (row .row-of .ensures, charger .charger-of .ensures, vehicle-read joined))
+    session-of (planOf (a .site) (a .rows) (now (a .curves)) (now (a .lens))) (a .time) (a .v) (a .c) (c .session-of .ensures) (vehicle-read joined)
+    (rw (row .row-of .ensures, charger .charger-of .ensures, vehicle-read joined) at (charging .charging-output .ensures))
 
 pub charge-spec : {M : Type 1} → statement M
 charge-spec =

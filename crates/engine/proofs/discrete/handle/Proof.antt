@@ -1,8 +1,10 @@
 -- `engine::discrete::handle` meets its contract. By the kind of the event. Assumes nothing.
+use borrow.Author.Needs.{needs}
 use Prim.Native.Nat.{_+_, _≤_}
 use native.Mathlib.Omega.{arith}
 use lib.ListN.{take}
-use borrow.Author.Needs.{needs}
+use Rattle.charger.specs.Code.Vehicles.{listed}
+use Rattle.engine.proofs.discrete.EventStates.{reneges}
 use Rattle.engine.proofs.discrete.handle.Statement.{statement}
 use Rattle.engine.proofs.discrete.handle.Tie as tie
 
@@ -21,6 +23,9 @@ enum-told-2 c = search needs
 renege-requires : tie.Need-renege-requires
 renege-requires c κs = search needs
 
+effect-of-requires : tie.Need-effect-of-requires
+effect-of-requires c κs = search needs
+
 enum-told-3 : tie.Need-enum-told-3
 enum-told-3 c = search needs
 
@@ -35,8 +40,9 @@ returns c =
 
 returns-2 : tie.Need-returns-2
 returns-2 c =
-    let s = c .before .before .before in
-    rw (c .before .enum-told2 .given .1) (c .renege .ensures (take (s .args .count) (s .args .rows)) (s .args .count) (s .args .e .charger))
+    let a = c .before .before .before .before .args in
+    rw (c .before .before .enum-told2 .given .1, c .effect-of .ensures)
+    (reneges (listed (a .vehicles)) (take (a .count) (a .rows)) (a .count) (a .queue) (a .places) (c .before .renege .ensures) (a .e .charger))
 
 returns-3 : tie.Need-returns-3
 returns-3 c =
@@ -52,6 +58,7 @@ handle-spec =
     arrive-requires
     enum-told-2
     renege-requires
+    effect-of-requires
     enum-told-3
     unplug-requires
     returns

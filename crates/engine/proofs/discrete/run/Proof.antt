@@ -1,7 +1,6 @@
 -- `engine::discrete::run` meets its contract. The loop's invariant: after i turns the state is the model's after i events. What an event asks follows from the
 -- laws of a run. Assumes nothing.
 use mathlib.Core.Path.{_≡_, refl, sym, ap, _∙_}
-use mathlib.Core.Bool.{Bool, true}
 use mathlib.Core.List.{_∷_}
 use Prim.Native.Nat.{ℕ, _+_, _-_, _≤_, _<_}
 use borrow.Author.Needs.{needs}
@@ -9,29 +8,29 @@ use native.Mathlib.Omega.{arith}
 use denote.Ref.{now}
 use lib.ListN.{length, length-take, length-set, getD, take}
 use lib.Seq.{length-take-le}
-use Rattle.charger.specs.Vehicle.{listed}
-use Rattle.charger.proofs.Part.{part-next, part-end, take-set, take-of-set, length-mapped}
+use Rattle.charger.specs.Code.Vehicles.{listed}
+use Rattle.charger.proofs.waiting_queue.Part.{part-next, part-end, take-set, length-mapped}
 use Rattle.engine.specs.declared.discrete.State.{State}
 use Rattle.engine.specs.declared.events.Event.{Event}
 use Rattle.engine.specs.Plan.{Plan}
 use Rattle.engine.specs.Events.{arrival}
 use Rattle.engine.specs.SiteState.{SiteState}
 use Rattle.engine.specs.Discrete as D
-use Rattle.engine.specs.Discrete.{run, step}
-use Rattle.engine.specs.Code.{pending, behindFirst, poppedFirst, requeued, planOf, stateOf, siteState, model, adds, done, Sound, Ready}
-use Rattle.engine.proofs.EventLaws.{stopped, run-step}
-use Rattle.engine.proofs.EventStates.{begins, in-time, room-events, room-sessions, stepped, nothing, wrote, plugged}
-use Rattle.engine.proofs.Ready.{Whole, ready}
+use Rattle.engine.specs.Discrete.{Occupant, run, step}
+use Rattle.engine.specs.Code.Simulation.{pending, behindFirst, poppedFirst, requeued, planOf, eventState, siteState, occupants, model, adds, done, Sound, Ready}
+use Rattle.engine.proofs.discrete.EventLaws.{stopped, run-step}
+use Rattle.engine.proofs.discrete.EventStates.{begins, in-time, room-events, room-sessions, stood, stepped, nothing, wrote, plugged}
+use Rattle.engine.proofs.discrete.Ready.{Whole, ready}
 use Rattle.engine.proofs.discrete.run.Statement.{statement}
 use Rattle.engine.proofs.discrete.run.Tie as tie
 
 abbrev Inv-loop : tie.InvT-loop
-Inv-loop site rows curves lens allowance vehicles events₀ queue₀ sessions₀ busy₀ i₀ events queue sessions busy i =
-    let s = stateOf events queue sessions busy in
+Inv-loop site rows curves lens allowance vehicles events₀ queue₀ sessions₀ places₀ i₀ events queue sessions places i =
+    let s = eventState events queue sessions places in
     (i ≤ allowance) × Sound (s .simulation) × Whole (s .simulation) × (model (site .count) s ≡ run (planOf site rows curves lens) i)
 
 abbrev μ-loop : tie.MeasureT-loop
-μ-loop site rows curves lens allowance vehicles events₀ queue₀ sessions₀ busy₀ i₀ events queue sessions busy i = allowance - i
+μ-loop site rows curves lens allowance vehicles events₀ queue₀ sessions₀ places₀ i₀ events queue sessions places i = allowance - i
 
 abbrev planned : tie.Start Inv-loop μ-loop → Plan
 planned s = planOf (s .args .site) (s .args .rows) (now (s .args .curves)) (now (s .args .lens))
@@ -41,18 +40,20 @@ chargers-count s =
     let long : length (s .args .site .chargers) ≡ 32 = search (needs, length-mapped) in
     length-take-le (s .args .site .count) (s .args .site .chargers) (omega arith)
 
+few : (s : tie.Start Inv-loop μ-loop) → length (listed (s .args .site .vehicles)) ≤ 64
+few s = simp length-take (omega arith)
+
 -- ---- a turn's state, and what the laws of a run tell of it
 abbrev start-of : tie.At-loop Inv-loop μ-loop → tie.Start Inv-loop μ-loop
 start-of l = l .before .before .before .before .before .before .before
 
 abbrev state : tie.At-loop Inv-loop μ-loop → State
-state l = stateOf (l .loop .events) (l .loop .queue) (l .loop .sessions) (l .loop .busy)
+state l = eventState (l .loop .events) (l .loop .queue) (l .loop .sessions) (l .loop .places)
 
 is-ready : (l : tie.At-loop Inv-loop μ-loop) → Ready (state l .simulation)
 is-ready l =
     let s = start-of l in
-    let few : length (listed (s .args .site .vehicles)) ≤ 64 = simp length-take (omega arith) in
-    ready (planned s) (s .args .site .count) (state l) (l .loop .i) few (s .pre .1) (l .loop .inv .1) (l .loop .inv .2) (l .loop .inv .3)
+    ready (planned s) (s .args .site .count) (state l) (l .loop .i) (few s) (s .pre .1) (l .loop .inv .1) (l .loop .inv .2) (l .loop .inv .3)
 
 abbrev event : tie.At-loop Inv-loop μ-loop → Event
 event l = getD (l .loop .events .all) (l .loop .events .head) (arrival 0 0)
@@ -66,17 +67,17 @@ first-of c =
     let l = loop-of c .loop in
     part-next (l .events .all) (l .events .head) (l .events .tail) (arrival 0 0) (c .before .before .if1 .left) (omega (arith, c .before .before .if1 .left, l .inv .1 .events, l .inv .2 .events))
 
--- what is left once the event is popped, and the queue and the flags are as it leaves them
-abbrev left-by : tie.After-handle Inv-loop μ-loop → SiteState Bool
-left-by c = siteState (requeued (c .handle .result .queue) (poppedFirst (state (loop-of c) .simulation))) (take (start-of (loop-of c) .args .site .count) (c .handle .result .busy))
+-- what is left once the event is popped, and the queue and the places are as it leaves them
+abbrev left-by : tie.After-handle Inv-loop μ-loop → SiteState Occupant
+left-by c = siteState (requeued (c .handle .result .queue) (poppedFirst (state (loop-of c) .simulation))) (occupants (take (start-of (loop-of c) .args .site .count) (c .handle .result .places)))
 
-next-model : (c : tie.After-handle Inv-loop μ-loop) (g : SiteState Bool) (h : ℕ) → g ≡ done (planned (start-of (loop-of c))) (event (loop-of c) .time) (c .handle .result .action) (left-by c)
+next-model : (c : tie.After-handle Inv-loop μ-loop) (g : SiteState Occupant) (h : ℕ) → g ≡ done (planned (start-of (loop-of c))) (event (loop-of c) .time) (c .handle .result .action) (left-by c)
     → h ≡ loop-of c .loop .events .head + 1 → record { site = g; handled = h } ≡ run (planned (start-of (loop-of c))) (loop-of c .loop .i + 1)
 next-model c g h same counts =
     let l = loop-of c in
     let s = start-of l in
     let p = planned s in
-    stepped (state l .simulation) (event l) (first-of c) p (s .args .site .count) (chargers-count s) (l .loop .busy) (c .handle .result) (c .handle .ensures) g h same counts
+    stepped (state l .simulation) (event l) (first-of c) p (s .args .site .count) (chargers-count s) (l .loop .places) (c .handle .result) (c .handle .ensures) g h same counts
     ∙ ap (step p) (l .loop .inv .3)
     ∙ sym (run-step p (l .loop .i))
 
@@ -168,7 +169,7 @@ loop-again c =
       record { order = omega (arith, h .before .before .if1 .left); events = l .inv .1 .events; queued = omega (arith, room h); sessions = l .inv .1 .sessions },
       record { events = l .inv .2 .events; queue = queue-whole h; sessions = l .inv .2 .sessions },
       next-model h _ _
-          (nothing (state (loop-of h) .simulation) (event (loop-of h)) (first-of h) (planned s) (s .args .site .count) (chargers-count s) (l .busy) (h .handle .result) (h .handle .ensures) d)
+          (nothing (state (loop-of h) .simulation) (event (loop-of h)) (first-of h) (planned s) (s .args .site .count) (chargers-count s) (l .places) (h .handle .result) (h .handle .ensures) d)
           refl,
     )
 
@@ -207,7 +208,7 @@ loop-again-2 c =
       record { order = omega (arith, h .before .before .if1 .left); events = l .inv .1 .events; queued = omega (arith, room h); sessions = omega (arith, room h, one) },
       record { events = l .inv .2 .events; queue = queue-whole h; sessions = simp length-set (l .inv .2 .sessions) },
       next-model h _ _
-          (wrote (state (loop-of h) .simulation) (event (loop-of h)) (first-of h) (planned s) (s .args .site .count) (chargers-count s) (l .busy) (h .handle .result) (h .handle .ensures) _ d _
+          (wrote (state (loop-of h) .simulation) (event (loop-of h)) (first-of h) (planned s) (s .args .site .count) (chargers-count s) (l .places) (h .handle .result) (h .handle .ensures) _ d _
           refl refl refl (take-set (l .sessions .all) (l .sessions .len) _ (omega (arith, room h, one, l .inv .2 .sessions))))
           refl,
     )
@@ -243,8 +244,12 @@ pushed-requires c κs =
     let h = c .before .before .before .before .before .before in
     (omega (arith, h .before .before .if1 .left), omega (arith, room h, ap adds (c .before .before .action2 .given .1)))
 
-marked-requires : tie.Need-marked-requires Inv-loop μ-loop
-marked-requires c κs = search needs
+-- who plugs in is one of the plan's vehicles
+occupied-requires : tie.Need-occupied-requires Inv-loop μ-loop
+occupied-requires c κs =
+    let told = c .before .before .before in
+    let h = told .before .before .before .before in
+    omega (arith, h .handle .ensures .there _ _ (told .action2 .given .1), few (start-of (loop-of h)))
 
 loop-less-3 : tie.Need-loop-less-3 Inv-loop μ-loop
 loop-less-3 c = search needs
@@ -264,9 +269,9 @@ loop-again-3 c =
       record { order = omega (arith, h .before .before .if1 .left, event-pushed .ensures); events = omega (arith, room h, one, event-pushed .ensures); queued = omega (arith, room h); sessions = omega (arith, room h, one) },
       record { events = search (length-mapped, event-pushed .ok .1 .1 .0); queue = queue-whole h; sessions = simp length-set (l .inv .2 .sessions) },
       next-model h _ _
-          (plugged (state (loop-of h) .simulation) (event (loop-of h)) (first-of h) (planned s) n (chargers-count s) (l .busy) (h .handle .result) (h .handle .ensures) _ _ d
+          (plugged (state (loop-of h) .simulation) (event (loop-of h)) (first-of h) (planned s) n (chargers-count s) (l .places) (h .handle .result) (h .handle .ensures) _ _ d
           (session .result) (session .ensures) _
-          (event-pushed .ensures .0) refl (ap (take n) (c .marked .ensures) ∙ take-of-set n (h .handle .result .busy) _ true)
+          (event-pushed .ensures .0) refl (stood n (h .handle .result .places) _ _ (c .occupied .ensures))
           (take-set (l .sessions .all) (l .sessions .len) _ (omega (arith, room h, one, l .inv .2 .sessions))))
           (event-pushed .ensures .1),
     )
@@ -311,7 +316,7 @@ run-spec =
     element-set-from-x-2
     add-sessions-2
     pushed-requires
-    marked-requires
+    occupied-requires
     loop-less-3
     loop-again-3
     state-of-requires-2

@@ -1,6 +1,4 @@
 -- `engine::discrete::session_of` meets its contract. Assumes nothing.
-use Rattle.engine.specs.Plan.{stay}
-use Rattle.engine.specs.Discrete.{charged}
 use borrow.Author.Needs.{needs}
 use Rattle.engine.proofs.discrete.session_of.Statement.{statement}
 use Rattle.engine.proofs.discrete.session_of.Tie as tie
@@ -15,10 +13,9 @@ minus-requires : tie.Need-minus-requires
 minus-requires c κs = search needs
 
 returns : tie.Need-returns
-unfolding charged stay
 returns c =
     let waited = c .before .before in
-    λ p car charge. rw (waited .minus .ensures, waited .before .stay .ensures .0, charge, car)
+    rw (waited .minus .ensures, waited .before .stay .ensures .0)
 
 pub session-of-spec : {M : Type 1} → statement M
 session-of-spec = tie.close (tie.spec stay-requires add-until minus-requires returns)

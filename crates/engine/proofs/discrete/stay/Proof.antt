@@ -1,7 +1,7 @@
 -- `engine::discrete::stay` meets its contract. Each part is at most a week. Assumes nothing.
 use borrow.Author.Needs.{needs}
 use native.Mathlib.Omega.{arith}
-use Rattle.curve.proofs.Ceiling.{ceiling-week}
+use Rattle.curve.proofs.float.Ceiling.{ceiling-week}
 use Rattle.engine.proofs.discrete.stay.Statement.{statement}
 use Rattle.engine.proofs.discrete.stay.Tie as tie
 

@@ -1,7 +1,7 @@
 -- `engine::discrete::unplug` meets its contract. By what `pop_compatible` found. Assumes nothing.
 use lib.ListN.{take}
-use Rattle.charger.specs.Vehicle.{listed}
-use Rattle.engine.proofs.EventStates.{passes, frees}
+use Rattle.charger.specs.Code.Vehicles.{listed}
+use Rattle.engine.proofs.discrete.EventStates.{passes, frees}
 use borrow.Author.Needs.{needs}
 use Rattle.engine.proofs.discrete.unplug.Statement.{statement}
 use Rattle.engine.proofs.discrete.unplug.Tie as tie
@@ -12,8 +12,8 @@ row-of-requires c κs = search needs
 pop-compatible-requires : tie.Need-pop-compatible-requires
 pop-compatible-requires c κs = search needs
 
-marked-requires : tie.Need-marked-requires
-marked-requires c κs = search needs
+placed-requires : tie.Need-placed-requires
+placed-requires c κs = search needs
 
 returns : tie.Need-returns
 returns c =
@@ -22,8 +22,8 @@ returns c =
     let popped = freed .before in
     let row = popped .before .row-of in
     let a = popped .before .before .args in
-    passes (listed (a .vehicles)) (take (a .count) (a .rows)) (a .count) (a .queue) (a .busy) (a .c) (popped .pop-compatible .result) (row .result) (row .ensures)
-    (popped .pop-compatible .ensures) (freed .marked .result) (freed .marked .ensures) (taken .if1 .taken)
+    passes (listed (a .vehicles)) (take (a .count) (a .rows)) (a .count) (a .queue) (a .places) (a .c) (popped .pop-compatible .result) (row .result) (row .ensures)
+    (popped .pop-compatible .ensures) (freed .placed .result) (freed .placed .ensures) (taken .if1 .taken)
 
 returns-2 : tie.Need-returns-2
 returns-2 c =
@@ -31,9 +31,9 @@ returns-2 c =
     let popped = freed .before in
     let row = popped .before .row-of in
     let a = popped .before .before .args in
-    frees (listed (a .vehicles)) (take (a .count) (a .rows)) (a .count) (a .queue) (a .busy) (a .c) (popped .pop-compatible .result) (row .result) (row .ensures)
-    (popped .pop-compatible .ensures) (freed .marked .result) (freed .marked .ensures) (c .if1 .left)
+    frees (listed (a .vehicles)) (take (a .count) (a .rows)) (a .count) (a .queue) (a .places) (a .c) (popped .pop-compatible .result) (row .result) (row .ensures)
+    (popped .pop-compatible .ensures) (freed .placed .result) (freed .placed .ensures) (c .if1 .left)
 
 pub unplug-spec : {M : Type 1} → statement M
 unplug-spec =
-    tie.close (tie.spec row-of-requires pop-compatible-requires marked-requires returns returns-2)
+    tie.close (tie.spec row-of-requires pop-compatible-requires placed-requires returns returns-2)

@@ -4,8 +4,8 @@ use mathlib.Core.Path.{_≡_, refl}
 use borrow.Author.Needs.{needs}
 use native.Mathlib.Omega.{arith}
 use lib.ListN.{length, take, length-set}
-use Rattle.engine.specs.Code.{eventsOf}
-use Rattle.engine.proofs.Rows.{event-more}
+use Rattle.engine.specs.Code.Simulation.{eventsOf}
+use Rattle.engine.proofs.events.Rows.{event-more}
 use Rattle.engine.proofs.events.events_of.Statement.{statement}
 use Rattle.engine.proofs.events.events_of.Tie as tie
 

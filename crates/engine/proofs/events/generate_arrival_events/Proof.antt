@@ -6,12 +6,12 @@ use Prim.Native.Nat.{_*_, _-_, _≤_}
 use borrow.Author.Needs.{needs}
 use native.Mathlib.Omega.{arith}
 use lib.ListN.{length, take}
-use Rattle.charger.specs.Queue.{part}
-use Rattle.charger.proofs.Part.{part-end, length-mapped}
+use Rattle.charger.specs.Code.Queue.{part}
+use Rattle.charger.proofs.waiting_queue.Part.{part-end, length-mapped}
 use Rattle.engine.specs.Events.{Sorted, empty, generate}
-use Rattle.engine.specs.Code.{eventsOf}
-use Rattle.engine.proofs.Generated.{listed-at, until-fits, generate-rows}
-use Rattle.engine.proofs.Order.{sorted-push}
+use Rattle.engine.specs.Code.Simulation.{eventsOf}
+use Rattle.engine.proofs.events.Generated.{listed-at, until-fits, generate-rows}
+use Rattle.engine.proofs.events.Order.{sorted-push}
 use Rattle.engine.proofs.events.generate_arrival_events.Statement.{statement}
 use Rattle.engine.proofs.events.generate_arrival_events.Tie as tie
 

@@ -7,10 +7,10 @@ use denote.Ref.{now}
 use lib.ListN.{length, drop}
 use mathlib.Core.Bool.{Bool, false}
 use Rattle.engine.specs.declared.charger_state.ChargerState.{ChargerState}
-use Rattle.engine.specs.Power.{anyFinished}
-use Rattle.engine.specs.Bank.{advanced}
-use Rattle.engine.proofs.Passes.{any-more}
-use Rattle.engine.proofs.Gaps.{Crossed, crossed-none, crossed-inside, crossed-more, crossed-all, still-advanced, any-same}
+use Rattle.engine.specs.Code.Rounds.{anyFinished}
+use Rattle.engine.specs.Code.Bank.{advanced}
+use Rattle.engine.proofs.power.Passes.{any-more}
+use Rattle.engine.proofs.power.Gaps.{Crossed, crossed-none, crossed-inside, crossed-more, crossed-all, still-advanced, any-same}
 use Rattle.engine.proofs.power.advance.Statement.{statement}
 use Rattle.engine.proofs.power.advance.Tie as tie
 
@@ -27,8 +27,8 @@ abbrev μ-loop : tie.MeasureT-loop
 
 loop-holds : tie.Need-loop-holds Inv-loop μ-loop
 loop-holds c =
-    let a = c .before .before .before .args in
-    (omega arith, refl, refl, crossed-none _ (still-advanced _) (a .n) _ _ _ (any-same _) refl (c .before .before .before .pre .1))
+    let a = c .before .args in
+    (omega arith, refl, refl, crossed-none _ (still-advanced _) (a .n) _ _ _ (any-same _) refl (c .before .pre .1))
 
 mul-advance-at : tie.Need-mul-advance-at Inv-loop μ-loop
 mul-advance-at c = omega arith
@@ -40,7 +40,7 @@ advance-at-requires : tie.Need-advance-at-requires Inv-loop μ-loop
 advance-at-requires c κs =
     let at-loop = c .before .before .before .before in
     let inv = at-loop .loop .inv in
-    let here = crossed-inside _ (still-advanced _) _ _ _ _ (any-same (at-loop .loop .any)) (at-loop .loop .k) (now (at-loop .before .before .before .before .args .busy)) (omega arith) (inv .3) in
+    let here = crossed-inside _ (still-advanced _) _ _ _ _ (any-same (at-loop .loop .any)) (at-loop .loop .k) (now (at-loop .before .before .args .busy)) (omega arith) (inv .3) in
     omega arith
 
 add-k : tie.Need-add-k Inv-loop μ-loop
@@ -51,13 +51,13 @@ loop-less c = omega arith
 
 loop-again : tie.Need-loop-again Inv-loop μ-loop
 loop-again c =
-    let at-call = c .before .before .before .before in
+    let at-call = c .before .before in
     let at-loop = at-call .before .before .before .before .before in
     let inv = at-loop .loop .inv in (
       omega arith,
       at-call .advance-at .kept .0 ∙ inv .1,
       at-call .advance-at .kept .1 .0 ∙ inv .2,
-      crossed-more _ (still-advanced _) _ _ _ _ (any-same (at-loop .loop .any)) _ _ (now (at-loop .before .before .before .before .args .busy)) (omega arith) (inv .3) (at-call .advance-at .ensures .state) (any-more _ (at-call .advance-at .ensures)),
+      crossed-more _ (still-advanced _) _ _ _ _ (any-same (at-loop .loop .any)) _ _ (now (at-loop .before .before .args .busy)) (omega arith) (inv .3) (at-call .advance-at .ensures .state) (any-more _ (at-call .advance-at .ensures)),
     )
 
 same-length : tie.Need-same-length Inv-loop μ-loop
@@ -67,7 +67,7 @@ same-length-2 : tie.Need-same-length-2 Inv-loop μ-loop
 same-length-2 c = c .before .loop .inv .2
 
 returns : tie.Need-returns Inv-loop μ-loop
-returns c = crossed-all _ (still-advanced _) _ _ _ _ (any-same (c .before .loop .any)) (c .before .loop .k) (now (c .before .before .before .before .before .args .busy)) (omega arith) (c .before .loop .inv .3)
+returns c = crossed-all _ (still-advanced _) _ _ _ _ (any-same (c .before .loop .any)) (c .before .loop .k) (now (c .before .before .before .args .busy)) (omega arith) (c .before .loop .inv .3)
 
 pub advance-spec : {M : Type 1} → statement M
 advance-spec =

@@ -1,7 +1,7 @@
 -- `engine::power::advance_at` meets its contract.
 use mathlib.Core.Path.{sym, _∙_}
 use denote.Ref.{now}
-use Rattle.engine.proofs.PassTurns.{no-advance, advances}
+use Rattle.engine.proofs.power.PassTurns.{no-advance, advances}
 use borrow.Author.Needs.{needs}
 use Rattle.engine.proofs.power.advance_at.Statement.{statement}
 use Rattle.engine.proofs.power.advance_at.Tie as tie
@@ -21,8 +21,11 @@ same-length-2 c = search needs
 returns : tie.Need-returns
 returns c =
     let at-load = c .before .before in
-    let a = at-load .before .before .before .before .before .args in
+    let a = at-load .before .before .before .args in
     no-advance (a .i) (now (a .floats)) (now (a .bytes)) (a .factor) (a .any) (rw (at-load .load .ensures) at (sym (c .before .is-free .ensures) ∙ c .if1 .taken))
+
+cap-of-requires : tie.Need-cap-of-requires
+cap-of-requires c κs = search needs
 
 advanced-requires : tie.Need-advanced-requires
 advanced-requires c κs = search needs
@@ -41,12 +44,13 @@ same-length-4 c = search needs
 
 returns-2 : tie.Need-returns-2
 returns-2 c =
-    let at-store = c .before .before .before .before .before .before in
+    let at-store = c .before .before .before .before in
     let at-advanced = at-store .before .before .before in
-    let at-test = at-advanced .before in
+    let at-cap = at-advanced .before in
+    let at-test = at-cap .before in
     let at-load = at-test .before .before in
-    let a = at-load .before .before .before .before .before .args in
-    let moved = rw (at-load .load .ensures) at (at-advanced .advanced .ensures) in
+    let a = at-load .before .before .before .args in
+    let moved = rw (at-cap .cap-of .ensures, at-load .load .ensures) at (at-advanced .advanced .ensures) in
     advances (a .i) (now (a .floats)) (now (a .bytes)) (a .factor) (a .any)
     (rw (at-load .load .ensures) at (sym (at-test .before .is-free .ensures) ∙ at-test .if1 .left))
     (rw moved at (at-store .store .ensures))
@@ -60,12 +64,13 @@ same-length-6 c = search needs
 
 returns-3 : tie.Need-returns-3
 returns-3 c =
-    let at-store = c .before .before .before .before .before .before in
+    let at-store = c .before .before .before .before in
     let at-advanced = at-store .before .before .before in
-    let at-test = at-advanced .before in
+    let at-cap = at-advanced .before in
+    let at-test = at-cap .before in
     let at-load = at-test .before .before in
-    let a = at-load .before .before .before .before .before .args in
-    let moved = rw (at-load .load .ensures) at (at-advanced .advanced .ensures) in
+    let a = at-load .before .before .before .args in
+    let moved = rw (at-cap .cap-of .ensures, at-load .load .ensures) at (at-advanced .advanced .ensures) in
     advances (a .i) (now (a .floats)) (now (a .bytes)) (a .factor) (a .any)
     (rw (at-load .load .ensures) at (sym (at-test .before .is-free .ensures) ∙ at-test .if1 .left))
     (rw moved at (at-store .store .ensures))
@@ -80,6 +85,7 @@ advance-at-spec =
     same-length
     same-length-2
     returns
+    cap-of-requires
     advanced-requires
     store-requires
     is-finished-requires

@@ -1,6 +1,6 @@
 -- `engine::power::charge` meets its contract.
-use Rattle.engine.proofs.Passes.{both}
-use Rattle.engine.proofs.Gaps.{cars-requested}
+use Rattle.engine.proofs.power.Passes.{both}
+use Rattle.engine.proofs.power.Gaps.{cars-requested}
 use borrow.Author.Needs.{needs}
 use Rattle.engine.proofs.power.charge.Statement.{statement}
 use Rattle.engine.proofs.power.charge.Tie as tie
@@ -13,9 +13,9 @@ scaling-requires c κs = search needs
 
 advance-requires : tie.Need-advance-requires
 advance-requires c κs =
-    let at-request = c .before .before .before .before .before .before .before in
-    let start = at-request .before .before .before .before .before .before .before .before in
-    (search needs, cars-requested (start .args .limit) _ (start .pre .1 .1 .0) (at-request .request-power .ensures .0))
+    let at-request = c .before .before .before .before .before in
+    let start = at-request .before .before .before .before .before .before in
+    (search needs, cars-requested _ (start .pre .1 .1 .0) (at-request .request-power .ensures .0))
 
 same-length : tie.Need-same-length
 same-length c = search needs
@@ -25,9 +25,9 @@ same-length-2 c = search needs
 
 returns : tie.Need-returns
 returns c =
-    let at-advance = c .before .before .before .before in
+    let at-advance = c .before .before in
     let at-scaling = at-advance .before in
-    let at-request = at-scaling .before .before .before .before .before .before .before in (
+    let at-request = at-scaling .before .before .before .before .before in (
       both _ _ _ (at-request .request-power .ensures .0) (at-request .request-power .ensures .1) (at-scaling .scaling .ensures) (at-advance .advance .ensures .0),
       at-advance .advance .ensures .1,
     )

@@ -2,7 +2,7 @@
 use mathlib.Core.Path.{sym, _∙_}
 use denote.Ref.{now}
 use Rattle.engine.specs.Power.{request}
-use Rattle.engine.proofs.PassTurns.{no-request, requested}
+use Rattle.engine.proofs.power.PassTurns.{no-request, requested}
 use borrow.Author.Needs.{needs}
 use Rattle.engine.proofs.power.request_at.Statement.{statement}
 use Rattle.engine.proofs.power.request_at.Tie as tie
@@ -22,18 +22,18 @@ same-length-2 c = search needs
 returns : tie.Need-returns
 returns c =
     let at-load = c .before .before in
-    let a = at-load .before .before .before .before .before .before .args in
+    let a = at-load .before .before .before .before .args in
     no-request (a .i) (now (a .floats)) (now (a .bytes)) _ (a .sum) (rw (at-load .load .ensures) at (sym (c .before .is-free .ensures) ∙ c .if1 .taken))
 
-mul-profile-place : tie.Need-mul-profile-place
-mul-profile-place c = search needs
+mul-place-on-curve : tie.Need-mul-place-on-curve
+mul-place-on-curve c = search needs
 
-element-copy-out-profile-place : tie.Need-element-copy-out-profile-place
-element-copy-out-profile-place c = search needs
+element-copy-out-place-on-curve : tie.Need-element-copy-out-place-on-curve
+element-copy-out-place-on-curve c = search needs
 
-profile-place-requires : tie.Need-profile-place-requires
-profile-place-requires c κs =
-    c .before .before .before .before .before .before .before .before .before .pre .1 .1 .rises _
+place-on-curve-requires : tie.Need-place-on-curve-requires
+place-on-curve-requires c κs =
+    c .before .before .before .before .before .before .before .pre .1 .1 .rises _
 
 mul-segments : tie.Need-mul-segments
 mul-segments c = search needs
@@ -45,10 +45,10 @@ with-request-requires : tie.Need-with-request-requires
 with-request-requires c κs = search needs
 
 store-requires : tie.Need-store-requires
-store-requires c κs = c .before .before .before .before .before .before .before .before .before .before .before .before .before .before .pre .0
+store-requires c κs = c .before .before .before .before .before .before .before .before .before .before .before .before .pre .0
 
-draw-requires : tie.Need-draw-requires
-draw-requires c κs = search needs
+added-requires : tie.Need-added-requires
+added-requires c κs = search needs
 
 same-length-3 : tie.Need-same-length-3
 same-length-3 c = search needs
@@ -59,16 +59,16 @@ same-length-4 c = search needs
 returns-2 : tie.Need-returns-2
 unfolding request
 returns-2 c =
-    let at-store = c .before .before .before .before .before in
+    let at-store = c .before .before .before in
     let at-request = at-store .before .before .before in
     let at-place = at-request .before .before in
     let at-test = at-place .before .before in
     let at-load = at-test .before .before in
-    let a = at-load .before .before .before .before .before .before .args in
+    let a = at-load .before .before .before .before .args in
     let F = now (a .floats) in
     let B = now (a .bytes) in
-    let asked = rw (at-place .profile-place .ensures, at-load .load .ensures) at (at-request .with-request .ensures) in
-    rw (c .draw .ensures, asked)
+    let asked = rw (at-place .place-on-curve .ensures, at-load .load .ensures) at (at-request .with-request .ensures) in
+    rw (c .added .ensures, asked)
     (requested (a .i) F B _ (a .sum) (rw (at-load .load .ensures) at (sym (at-test .before .is-free .ensures) ∙ at-test .if1 .left)) (rw asked at (at-store .store .ensures)))
 
 pub request-at-spec : {M : Type 1} → statement M
@@ -80,14 +80,14 @@ request-at-spec =
     same-length
     same-length-2
     returns
-    mul-profile-place
-    element-copy-out-profile-place
-    profile-place-requires
+    mul-place-on-curve
+    element-copy-out-place-on-curve
+    place-on-curve-requires
     mul-segments
     element-write-segments
     with-request-requires
     store-requires
-    draw-requires
+    added-requires
     same-length-3
     same-length-4
     returns-2)

@@ -5,7 +5,7 @@ use native.Mathlib.Omega.{arith}
 use lib.Ieee.{ofBits}
 use lib.ListN.{length, List·getD-eq-default}
 use Rattle.curve.specs.F64.{ratio}
-use Rattle.charger.proofs.Part.{getD-any, length-mapped}
+use Rattle.charger.proofs.waiting_queue.Part.{getD-any, length-mapped}
 use Rattle.engine.proofs.site.battery_of.Statement.{statement}
 use Rattle.engine.proofs.site.battery_of.Tie as tie
 

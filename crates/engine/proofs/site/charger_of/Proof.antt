@@ -5,9 +5,9 @@ use native.Mathlib.Omega.{arith}
 use lib.Ieee.{ofBits}
 use lib.ListN.{length, length-take}
 use Rattle.curve.specs.F64.{ratio}
-use Rattle.charger.proofs.Part.{length-mapped}
+use Rattle.charger.proofs.waiting_queue.Part.{length-mapped}
 use Rattle.engine.specs.Plan.{chargerAt}
-use Rattle.engine.proofs.At.{at-inside, at-past}
+use Rattle.engine.proofs.site.At.{at-inside, at-past}
 use Rattle.engine.proofs.site.charger_of.Statement.{statement}
 use Rattle.engine.proofs.site.charger_of.Tie as tie
 

@@ -1,5 +1,4 @@
 -- `engine::site::charging_output` meets its contract. Assumes nothing.
-use mathlib.Core.Path.{_∙_}
 use borrow.Author.Needs.{needs}
 use Rattle.engine.proofs.site.charging_output.Statement.{statement}
 use Rattle.engine.proofs.site.charging_output.Tie as tie
@@ -19,8 +18,7 @@ integrate-over-requires c κs = search needs
 returns : tie.Need-returns
 returns c =
     let b = c .before .before in
-    c .integrate-over .ensures
-    ∙ rw (c .before .profile-curve .ensures, b .battery-of .ensures, b .before .rated-power .ensures)
+    rw (c .before .profile-curve .ensures, b .battery-of .ensures, b .before .rated-power .ensures) at (c .integrate-over .ensures)
 
 pub charging-output-spec : {M : Type 1} → statement M
 charging-output-spec =

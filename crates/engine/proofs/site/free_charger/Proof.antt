@@ -4,11 +4,11 @@ use Prim.Native.Nat.{_≤_, _-_, _+_}
 use borrow.Author.Needs.{needs}
 use native.Mathlib.Omega.{arith}
 use lib.ListN.{length, take}
-use Rattle.charger.specs.Queue.{part, seek}
-use Rattle.charger.proofs.Part.{length-mapped}
+use Rattle.charger.specs.Code.Queue.{part, seek}
+use Rattle.charger.proofs.waiting_queue.Part.{length-mapped}
 use Rattle.engine.specs.SiteState.{below}
-use Rattle.engine.specs.Code.{takes}
-use Rattle.engine.proofs.Places.{search-start, search-here, search-on, search-end, takes-at}
+use Rattle.engine.specs.Code.Simulation.{takes}
+use Rattle.engine.proofs.site.Places.{search-start, search-here, search-on, search-end, takes-at}
 use Rattle.engine.proofs.site.free_charger.Statement.{statement}
 use Rattle.engine.proofs.site.free_charger.Tie as tie
 

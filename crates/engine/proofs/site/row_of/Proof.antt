@@ -3,8 +3,8 @@ use mathlib.Core.Path.{_≡_}
 use borrow.Author.Needs.{needs}
 use native.Mathlib.Omega.{arith}
 use lib.ListN.{length, length-take}
-use Rattle.charger.proofs.Part.{length-mapped}
-use Rattle.engine.proofs.At.{at-inside, at-past}
+use Rattle.charger.proofs.waiting_queue.Part.{length-mapped}
+use Rattle.engine.proofs.site.At.{at-inside, at-past}
 use Rattle.engine.proofs.site.row_of.Statement.{statement}
 use Rattle.engine.proofs.site.row_of.Tie as tie
 

@@ -33,8 +33,8 @@ use denote.Triple.Clauses.{lasts}
 use denote.Triple.Walked.{says, Stays, stay-ref, walkOf, goes-ref, ends-at, walked, walk-meets}
 use Rattle.engine.specs.declared.charger_state.ChargerState.{ChargerState}
 use Rattle.engine.specs.ChargerState as Spec
-use Rattle.curve.proofs.ByHand.{result-of, opens-at}
-use Rattle.engine.proofs.ByReference.{State, vals, tells, makes, typed}
+use Rattle.curve.proofs.points.ByHand.{result-of, opens-at}
+use Rattle.engine.proofs.thin.ByReference.{State, vals, tells, makes, typed}
 use Rattle.engine.proofs.charger_state.ChargerState.progress as progress
 use Rattle.engine.proofs.charger_state.ChargerState.progress.Symbol as progress-def
 use Rattle.engine.proofs.charger_state.ChargerState.progress.Symbol.{name as #progress}

@@ -4,8 +4,8 @@ use mathlib.Core.Bool.{true}
 use Prim.Native.Nat.{_-_, _≤_}
 use native.Mathlib.Omega.{arith}
 use Rattle.engine.specs.Timestep.{allFree}
-use Rattle.engine.specs.Bank.{bank}
-use Rattle.engine.proofs.Ends.{all-free-more, not-all-free}
+use Rattle.engine.specs.Code.Bank.{bank}
+use Rattle.engine.proofs.timestep.Ends.{all-free-more, not-all-free}
 use borrow.Author.Needs.{needs}
 use Rattle.engine.proofs.timestep.all_free.Statement.{statement}
 use Rattle.engine.proofs.timestep.all_free.Tie as tie
@@ -37,11 +37,11 @@ loop-again c =
 
 returns : tie.Need-returns Inv-loop μ-loop
 returns c =
-    sym (not-all-free (c .before .before .before .before .before .before .before .args .n) (c .before .before .before .before .loop .i) _ _ (omega arith) (rw (c .before .before .load .ensures) at (sym (c .before .is-free .ensures) ∙ c .if1 .left)))
+    sym (not-all-free (c .before .before .before .before .before .args .n) (c .before .before .before .before .loop .i) _ _ (omega arith) (rw (c .before .before .load .ensures) at (sym (c .before .is-free .ensures) ∙ c .if1 .left)))
 
 returns-2 : tie.Need-returns-2 Inv-loop μ-loop
 returns-2 c =
-    let all : c .before .loop .i ≡ c .before .before .before .before .args .n = omega arith in
+    let all : c .before .loop .i ≡ c .before .before .args .n = omega arith in
     sym (rw all at (c .before .loop .inv .1))
 
 pub all-free-spec : {M : Type 1} → statement M

@@ -4,8 +4,8 @@ use Prim.Native.Nat.{ℕ, _-_, _≤_, _<_}
 use native.Mathlib.Omega.{arith}
 use lib.ListN.{length}
 use Rattle.engine.specs.ChargerState.{empty}
-use Rattle.engine.specs.Bank.{stateAt}
-use Rattle.engine.proofs.Begins.{cleared-more, cleared-all}
+use Rattle.engine.specs.Code.Bank.{stateAt}
+use Rattle.engine.proofs.timestep.Begins.{cleared-more, cleared-all}
 use Rattle.engine.proofs.timestep.clear_all.Statement.{statement}
 use Rattle.engine.proofs.timestep.clear_all.Tie as tie
 
@@ -30,11 +30,11 @@ loop-less c = omega arith
 
 loop-again : tie.Need-loop-again Inv-loop μ-loop
 loop-again c =
-    let inv = c .before .before .before .before .before .before .before .before .loop .inv in (
+    let inv = c .before .before .before .before .before .before .loop .inv in (
       omega arith,
-      c .before .before .before .before .clear .kept .0 ∙ inv .1,
-      c .before .before .before .before .clear .kept .1 .0 ∙ inv .2,
-      cleared-more (c .before .before .before .before .clear .ensures) (inv .3),
+      c .before .before .clear .kept .0 ∙ inv .1,
+      c .before .before .clear .kept .1 .0 ∙ inv .2,
+      cleared-more (c .before .before .clear .ensures) (inv .3),
     )
 
 same-length : tie.Need-same-length Inv-loop μ-loop
@@ -45,7 +45,7 @@ same-length-2 c = c .before .loop .inv .2
 
 returns : tie.Need-returns Inv-loop μ-loop
 returns c =
-    let all : c .before .loop .i ≡ c .before .before .before .before .args .n = omega arith in
+    let all : c .before .loop .i ≡ c .before .before .args .n = omega arith in
     cleared-all _ _ _ (rw all at (c .before .loop .inv .3))
 
 pub clear-all-spec : {M : Type 1} → statement M

@@ -4,9 +4,9 @@ use native.Mathlib.Omega.{arith}
 use denote.Ref.{now}
 use lib.ListN.{length}
 use Rattle.engine.specs.Timestep.{allFree}
-use Rattle.engine.specs.Bank.{bank}
-use Rattle.charger.proofs.Part.{length-mapped}
-use Rattle.engine.proofs.Ends.{some-pending, ended-none, ended-queued}
+use Rattle.engine.specs.Code.Bank.{bank}
+use Rattle.charger.proofs.waiting_queue.Part.{length-mapped}
+use Rattle.engine.proofs.timestep.Ends.{some-pending, ended-none, ended-queued}
 use borrow.Author.Needs.{needs}
 use Rattle.engine.proofs.timestep.is_ended.Statement.{statement}
 use Rattle.engine.proofs.timestep.is_ended.Tie as tie
@@ -19,7 +19,7 @@ queue-length s = search (needs, length-mapped)
 
 returns : tie.Need-returns
 returns c =
-    let start = c .before .before .before .before .before .before in
+    let start = c .before .before .before .before in
     rw (some-pending (start .args .simulation .events) (c .if1 .taken) (omega (arith, events-length start, start .pre .1 .events)))
 
 all-free-requires : tie.Need-all-free-requires
@@ -27,12 +27,12 @@ all-free-requires c κs = search needs
 
 returns-2 : tie.Need-returns-2
 returns-2 c =
-    let s = c .before .before .before .before .before .before .before .before .before .args .simulation in
+    let s = c .before .before .before .before .before .before .before .args .simulation in
     rw (c .all-free .ensures) (ended-none (s .events) (s .queue) _ (c .before .before .before .if1 .left) (c .before .if2 .taken))
 
 returns-3 : tie.Need-returns-3
 returns-3 c =
-    let start = c .before .before .before .before .before .before .before .before in
+    let start = c .before .before .before .before .before .before in
     let a = start .args in
     let s = a .simulation in
     ended-queued (s .events) (s .queue) (allFree (bank (a .n) (now (a .floats)) (now (a .bytes)))) (c .before .before .if1 .left) (omega (arith, c .if2 .left)) (omega (arith, queue-length start))

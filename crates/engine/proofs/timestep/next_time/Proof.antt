@@ -1,6 +1,6 @@
 -- `engine::timestep::next_time` meets its contract.
 use borrow.Author.Tests.{le-leb, lt-leb}
-use Rattle.charger.proofs.Part.{part-end}
+use Rattle.charger.proofs.waiting_queue.Part.{part-end}
 use borrow.Author.Needs.{needs}
 use Rattle.engine.proofs.timestep.next_time.Statement.{statement}
 use Rattle.engine.proofs.timestep.next_time.Tie as tie

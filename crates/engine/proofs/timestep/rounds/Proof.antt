@@ -3,9 +3,9 @@ use mathlib.Core.Path.{_≡_, refl, sym, _∙_}
 use Prim.Native.Nat.{_+_, _-_}
 use native.Mathlib.Omega.{arith}
 use lib.ListN.{length}
-use Rattle.engine.specs.Code.{planOf}
-use Rattle.engine.proofs.Handling.{room-kept}
-use Rattle.engine.proofs.LoopRun.{Going, going-start, going-on, going-ended, going-out}
+use Rattle.engine.specs.Code.Simulation.{planOf}
+use Rattle.engine.proofs.plug_in.Handling.{room-kept}
+use Rattle.engine.proofs.timestep.LoopRun.{Going, going-start, going-on, going-ended, going-out}
 use Rattle.engine.proofs.timestep.rounds.Statement.{statement}
 use Rattle.engine.proofs.timestep.rounds.Tie as tie
 
@@ -18,15 +18,15 @@ abbrev μ-loop : tie.MeasureT-loop
 μ-loop floats₀ bytes₀ site rows curves lens time count last n s₀ at₀ floats bytes s at = time + count - at
 
 add-last : tie.Need-add-last Inv-loop μ-loop
-add-last c = omega (arith, c .before .before .before .pre .1 .1 .1 .0)
+add-last c = omega (arith, c .before .pre .1 .1 .1 .0)
 
 loop-holds : tie.Need-loop-holds Inv-loop μ-loop
-loop-holds c = (refl, refl, refl, refl, going-start _ _ _ _ _ _ _ (c .before .before .before .pre .1 .1 .0))
+loop-holds c = (refl, refl, refl, refl, going-start _ _ _ _ _ _ _ (c .before .pre .1 .1 .0))
 
 is-ended-requires : tie.Need-is-ended-requires Inv-loop μ-loop
 is-ended-requires c κs =
     let inv = c .before .before .before .loop .inv in
-    (room-kept (c .before .before .before .before .before .before .before .pre .0) (inv .0) (inv .1), inv .4 .fit .sound)
+    (room-kept (c .before .before .before .before .before .pre .0) (inv .0) (inv .1), inv .4 .fit .sound)
 
 same-length : tie.Need-same-length Inv-loop μ-loop
 same-length c = c .before .before .before .before .before .loop .inv .0
@@ -41,27 +41,27 @@ returns c =
 turn-requires : tie.Need-turn-requires Inv-loop μ-loop
 turn-requires c κs =
     let inv = c .before .before .before .before .before .before .before .loop .inv in
-    let start = c .before .before .before .before .before .before .before .before .before .before .before in
+    let start = c .before .before .before .before .before .before .before .before .before in
     (room-kept (start .pre .0) (inv .0) (inv .1), (start .pre .1 .0, (inv .4 .fit, (c .before .before .before .before .before .before .loop-test .taken, (sym (c .before .before .before .is-ended .ensures) ∙ c .before .before .if1 .left, start .pre .1 .1 .1 .1)))))
 
 loop-less : tie.Need-loop-less Inv-loop μ-loop
 loop-less c =
-    omega (arith, c .before .before .before .before .before .turn .ensures .later, c .before .before .before .before .before .turn .ensures .within, c .before .before .before .before .before .before .before .before .before .before .before .before .before .loop .inv .3)
+    omega (arith, c .before .before .before .turn .ensures .later, c .before .before .before .turn .ensures .within, c .before .before .before .before .before .before .before .before .before .before .before .loop .inv .3)
 
 loop-again : tie.Need-loop-again Inv-loop μ-loop
 loop-again c =
-    let inv = c .before .before .before .before .before .before .before .before .before .before .before .before .before .loop .inv in (
-      c .before .before .before .before .before .turn .kept .1 .0 ∙ inv .0,
-      c .before .before .before .before .before .turn .kept .1 .1 .0 ∙ inv .1,
+    let inv = c .before .before .before .before .before .before .before .before .before .before .before .loop .inv in (
+      c .before .before .before .turn .kept .1 .0 ∙ inv .0,
+      c .before .before .before .turn .kept .1 .1 .0 ∙ inv .1,
       refl,
       refl,
-      going-on _ _ _ _ _ _ _ (inv .4) refl (c .before .before .before .before .before .turn .ensures),
+      going-on _ _ _ _ _ _ _ (inv .4) refl (c .before .before .before .turn .ensures),
     )
 
 is-ended-requires-2 : tie.Need-is-ended-requires-2 Inv-loop μ-loop
 is-ended-requires-2 c κs =
     let inv = c .before .before .before .loop .inv in
-    (room-kept (c .before .before .before .before .before .before .before .pre .0) (inv .0) (inv .1), inv .4 .fit .sound)
+    (room-kept (c .before .before .before .before .before .pre .0) (inv .0) (inv .1), inv .4 .fit .sound)
 
 same-length-3 : tie.Need-same-length-3 Inv-loop μ-loop
 same-length-3 c = c .before .before .before .before .loop .inv .0

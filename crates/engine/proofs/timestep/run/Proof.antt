@@ -4,11 +4,11 @@ use native.Mathlib.Omega.{arith}
 use denote.Ref.{now}
 use lib.ListN.{length, take, length-take}
 use lib.Seq.{length-take-le}
-use Rattle.charger.proofs.Part.{length-mapped}
-use Rattle.engine.specs.Code.{planOf}
-use Rattle.engine.proofs.Handling.{room-kept}
-use Rattle.engine.proofs.Begins.{fit-start}
-use Rattle.engine.proofs.LoopRun.{finishes}
+use Rattle.charger.proofs.waiting_queue.Part.{length-mapped}
+use Rattle.engine.specs.Code.Simulation.{planOf}
+use Rattle.engine.proofs.plug_in.Handling.{room-kept}
+use Rattle.engine.proofs.timestep.Begins.{fit-start}
+use Rattle.engine.proofs.timestep.LoopRun.{finishes}
 use borrow.Author.Needs.{needs}
 use Rattle.engine.proofs.timestep.run.Statement.{statement}
 use Rattle.engine.proofs.timestep.run.Tie as tie
@@ -27,12 +27,12 @@ new-requires c κs = search needs
 
 rounds-requires : tie.Need-rounds-requires
 rounds-requires c κs =
-    let start = c .before .before .before .before .before .before .before .before .before .before .before .before .before .before in
+    let start = c .before .before .before .before .before .before .before .before .before .before in
     let a = start .args in
     let new = c .before .before .new in
     let ids : length (new .result .queue .ids) ≡ 64 = search (length-mapped, new .ok .1 .1 .1 .0) in
     let all : length (new .result .sessions .all) ≡ 64 = search (length-mapped, new .ok .1 .1 .1 .1 .0) in (
-      room-kept (start .pre .0) (c .before .before .before .before .before .before .before .before .clear-all .kept .0) (c .before .before .before .before .before .before .before .before .clear-all .kept .1 .0),
+      room-kept (start .pre .0) (c .before .before .before .before .before .before .clear-all .kept .0) (c .before .before .before .before .before .before .clear-all .kept .1 .0),
       (
         start .pre .1 .0,
         (
@@ -50,9 +50,9 @@ same-length-2 c = search needs
 
 returns : tie.Need-returns
 returns c =
-    let start = c .before .before .before .before .before .before .before .before .before .before .before .before .before .before .before .before .before .before .before in
+    let start = c .before .before .before .before .before .before .before .before .before .before .before .before .before in
     let a = start .args in
-    finishes (planOf (a .site) (a .rows) (now (a .curves)) (now (a .lens))) (a .site .count) (a .allowance) (few start) (c .before .before .before .before .before .before .before .new .ensures) (c .before .before .before .before .before .before .before .before .before .before .before .before .before .clear-all .ensures) (c .before .before .before .before .rounds .ensures)
+    finishes (planOf (a .site) (a .rows) (now (a .curves)) (now (a .lens))) (a .site .count) (a .allowance) (few start) (c .before .before .before .before .before .new .ensures) (c .before .before .before .before .before .before .before .before .before .clear-all .ensures) (c .before .before .rounds .ensures)
 
 pub run-spec : {M : Type 1} → statement M
 run-spec =

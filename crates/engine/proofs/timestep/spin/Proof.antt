@@ -3,12 +3,12 @@ use mathlib.Core.Path.{_≡_, ap}
 use Prim.Native.Nat.{ℕ, _+_, _-_, _≤_, _<_}
 use native.Mathlib.Omega.{arith}
 use denote.Ref.{now}
-use Rattle.charger.specs.Profiles.{curveAt}
-use Rattle.engine.specs.Power.{Spun, spin}
-use Rattle.engine.specs.Bank.{bank}
-use Rattle.engine.specs.Code.{pending}
-use Rattle.engine.specs.Steps.{nextTime}
-use Rattle.engine.proofs.LoopTurn.{Next, next-quiet, counted, went-on, went-freeing}
+use Rattle.charger.specs.Code.Profiles.{curveAt}
+use Rattle.engine.specs.Code.Rounds.{Spun, spin}
+use Rattle.engine.specs.Code.Bank.{bank}
+use Rattle.engine.specs.Code.Simulation.{pending}
+use Rattle.engine.specs.Code.Steps.{nextTime}
+use Rattle.engine.proofs.timestep.LoopTurn.{Next, next-quiet, counted, went-on, went-freeing}
 use borrow.Author.Needs.{needs}
 use Rattle.engine.proofs.timestep.spin.Statement.{statement}
 use Rattle.engine.proofs.timestep.spin.Tie as tie
@@ -32,19 +32,19 @@ next-time-requires c κs = search needs
 
 sub-charge-until : tie.Need-sub-charge-until
 sub-charge-until c =
-    omega (arith, reaches (c .before .before .before .before .before .before) _ (c .before .before .next-time .ensures) .later)
+    omega (arith, reaches (c .before .before .before .before) _ (c .before .before .next-time .ensures) .later)
 
 charge-until-requires : tie.Need-charge-until-requires
 charge-until-requires c κs = search needs
 
 add-then : tie.Need-add-then
 add-then c =
-    let m = rounds-of (c .before .before .before .before .before .before .before .before .before .before .before .before) _ _ (c .before .before .before .before .before .before .before .before .next-time .ensures) (ap (λ (p : Spun). p .rounds) (c .before .before .before .before .before .charge-until .ensures)) in
+    let m = rounds-of (c .before .before .before .before .before .before .before .before) _ _ (c .before .before .before .before .before .before .next-time .ensures) (ap (λ (p : Spun). p .rounds) (c .before .before .before .charge-until .ensures)) in
     omega arith
 
 sub-free-finished : tie.Need-sub-free-finished
 sub-free-finished c =
-    let m = rounds-of (c .before .before .before .before .before .before .before .before .before .before .before .before .before .before .before) _ _ (c .before .before .before .before .before .before .before .before .before .before .before .next-time .ensures) (ap (λ (p : Spun). p .rounds) (c .before .before .before .before .before .before .before .before .charge-until .ensures)) in
+    let m = rounds-of (c .before .before .before .before .before .before .before .before .before .before .before) _ _ (c .before .before .before .before .before .before .before .before .before .next-time .ensures) (ap (λ (p : Spun). p .rounds) (c .before .before .before .before .before .before .charge-until .ensures)) in
     omega arith
 
 free-finished-requires : tie.Need-free-finished-requires
@@ -58,16 +58,16 @@ same-length-2 c = search needs
 
 returns : tie.Need-returns
 returns c =
-    let start = c .before .before .before .before .before .before .before .before .before .before .before .before .before .before .before .before .before .before .before .before in
+    let start = c .before .before .before .before .before .before .before .before .before .before .before .before .before .before in
     let a = start .args in
     went-freeing (a .site) (a .rows) (now (a .curves)) (now (a .lens)) (a .time) (a .last) _ (a .simulation) (now (a .floats)) (now (a .bytes)) _ _ _
     (start .pre .1 .1 .1 .0)
     (start .pre .1 .1 .1 .1 .0)
     (start .pre .1 .1 .1 .1 .1 .0)
-    (c .before .before .before .before .before .before .before .before .before .before .before .before .before .before .before .before .next-time .ensures)
-    (c .before .before .before .before .before .before .before .before .before .before .before .before .before .charge-until .ensures)
-    (c .before .before .before .before .before .before .before .if1 .taken)
-    (c .before .before .before .before .free-finished .ensures)
+    (c .before .before .before .before .before .before .before .before .before .before .before .before .next-time .ensures)
+    (c .before .before .before .before .before .before .before .before .before .charge-until .ensures)
+    (c .before .before .before .before .before .if1 .taken)
+    (c .before .before .free-finished .ensures)
 
 same-length-3 : tie.Need-same-length-3
 same-length-3 c = search needs
@@ -77,14 +77,14 @@ same-length-4 c = search needs
 
 returns-2 : tie.Need-returns-2
 returns-2 c =
-    let start = c .before .before .before .before .before .before .before .before .before .before .before .before .before in
+    let start = c .before .before .before .before .before .before .before .before .before in
     let a = start .args in
     went-on (a .site) (a .rows) (now (a .curves)) (now (a .lens)) (a .time) (a .last) _ (a .simulation) (now (a .floats)) (now (a .bytes)) _ _ _
     (start .pre .1 .1 .1 .0)
     (start .pre .1 .1 .1 .1 .0)
     (start .pre .1 .1 .1 .1 .1 .0)
-    (c .before .before .before .before .before .before .before .before .before .next-time .ensures)
-    (c .before .before .before .before .before .before .charge-until .ensures)
+    (c .before .before .before .before .before .before .before .next-time .ensures)
+    (c .before .before .before .before .charge-until .ensures)
     (c .if1 .left)
     (start .pre .1 .1 .0)
 

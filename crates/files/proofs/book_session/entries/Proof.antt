@@ -5,18 +5,18 @@ use Prim.Native.Nat.{_-_, _≤_}
 use native.Mathlib.Omega.{arith}
 use borrow.Author.Needs.{needs}
 use lib.ListN.{length, take, length-set}
-use Rattle.charger.specs.Vehicle.{listed}
-use Rattle.charger.proofs.Part.{length-mapped}
-use Rattle.files.specs.Fields.{chargerCount}
-use Rattle.files.specs.BookSession.{entry, emptyFrom}
-use Rattle.files.proofs.SearchLaws.{map-step}
-use Rattle.files.proofs.BookLaws.{empty-start, empty-set}
+use Rattle.charger.specs.Code.Vehicles.{listed}
+use Rattle.charger.proofs.waiting_queue.Part.{length-mapped, map-step}
+use Rattle.files.specs.Places.{chargerCount}
+use Rattle.files.specs.BookSession.{entry}
+use Rattle.files.specs.Code.Writing.{emptyFrom, Fits, FitBelow}
+use Rattle.files.proofs.book_session.Laws.{empty-start, empty-set, fit-set}
 use Rattle.files.proofs.book_session.entries.Statement.{statement}
 use Rattle.files.proofs.book_session.entries.Tie as tie
 
 abbrev Inv-loop : tie.InvT-loop
 Inv-loop plan vehicles rows n xs all₀ i₀ all i =
-    (i ≤ n) × ((length all ≡ 65) × ((take i all ≡ map (entry plan (listed vehicles) (take (chargerCount plan) rows)) (take i xs)) × emptyFrom i all))
+    (i ≤ n) × ((length all ≡ 65) × ((take i all ≡ map (entry plan (listed vehicles) (take (chargerCount plan) rows)) (take i xs)) × (emptyFrom i all × FitBelow i all)))
 
 abbrev μ-loop : tie.MeasureT-loop
 μ-loop plan vehicles rows n xs all₀ i₀ all i = n - i
@@ -24,11 +24,35 @@ abbrev μ-loop : tie.MeasureT-loop
 long : (c : tie.Start Inv-loop μ-loop) → length (c .args .sessions .all) ≡ 64
 long c = search (needs, length-mapped)
 
+-- an entry's fields fit their widths, since they are numbers of the machine
+entry-fits : (c : tie.After-entry Inv-loop μ-loop) → Fits (c .entry .result)
+entry-fits c =
+    let ids = c .entry .ok .1 .1 in
+    let times = ids .1 .1 .1 .1 .1 in
+    let floats = times .1 .1 .1 .1 in
+    record {
+      vehicle = omega (arith, ids .0);
+      profile = omega (arith, ids .1 .0);
+      charger = omega (arith, ids .1 .1 .0);
+      connector = omega (arith, ids .1 .1 .1 .0);
+      outcome = omega (arith, ids .1 .1 .1 .1 .0);
+      arrival = omega (arith, times .0);
+      plugin = omega (arith, times .1 .0);
+      unplug = omega (arith, times .1 .1 .0);
+      wait = omega (arith, times .1 .1 .1 .0);
+      duration = floats .0 .1 .1 .0 .1;
+      idle = floats .1 .0 .1 .1 .0 .1;
+      peak = floats .1 .1 .0 .1 .1 .0 .1;
+      energy = floats .1 .1 .1 .0 .1 .1 .0 .1;
+      start = floats .1 .1 .1 .1 .0 .1;
+      end = floats .1 .1 .1 .1 .1 .0 .1;
+    }
+
 no-session-requires : tie.Need-no-session-requires Inv-loop μ-loop
 no-session-requires c κs = search needs
 
 loop-holds : tie.Need-loop-holds Inv-loop μ-loop
-loop-holds c = (omega arith, (refl, (refl, empty-start 65 _ (c .no-session .ensures))))
+loop-holds c = (omega arith, (refl, (refl, (empty-start 65 _ (c .no-session .ensures), λ k l. absurd (omega arith)))))
 
 mul-entry : tie.Need-mul-entry Inv-loop μ-loop
 mul-entry c = omega arith
@@ -56,7 +80,7 @@ loop-again c =
     let at-loop = c .before .before .before in
     let a = at-loop .before .before .before .before .args in
     let size = long (at-loop .before .before .before .before) in
-    (omega arith, (simp length-set (at-loop .loop .inv .1 .0), (map-step (entry (a .plan .now) (listed (a .vehicles)) (take (chargerCount (a .plan .now)) (a .rows))) (a .sessions .all) (at-loop .loop .all) (at-loop .loop .i) _ _ (omega arith) (omega arith) (at-loop .loop .inv .1 .1 .0) (c .entry .ensures), empty-set (at-loop .loop .i) (at-loop .loop .all) _ (at-loop .loop .inv .1 .1 .1))))
+    (omega arith, (simp length-set (at-loop .loop .inv .1 .0), (map-step (entry (a .plan .now) (listed (a .vehicles)) (take (chargerCount (a .plan .now)) (a .rows))) (a .sessions .all) (at-loop .loop .all) (at-loop .loop .i) _ _ (omega arith) (omega arith) (at-loop .loop .inv .1 .1 .0) (c .entry .ensures), (empty-set (at-loop .loop .i) (at-loop .loop .all) _ (at-loop .loop .inv .1 .1 .1 .0), fit-set (at-loop .loop .i) (at-loop .loop .all) _ (omega arith) (at-loop .loop .inv .1 .1 .1 .1) (entry-fits c)))))
 
 returns : tie.Need-returns Inv-loop μ-loop
 returns c =

@@ -12,8 +12,8 @@ charged-requires c κs = search needs
 get-vehicle-requires : tie.Need-get-vehicle-requires
 get-vehicle-requires c κs = search needs
 
-u16-at-requires : tie.Need-u16-at-requires
-u16-at-requires c κs = search needs
+charger-count-requires : tie.Need-charger-count-requires
+charger-count-requires c κs = search needs
 
 row-of-requires : tie.Need-row-of-requires
 row-of-requires c κs = search needs
@@ -71,7 +71,7 @@ returns c =
     let count = row .before in
     let car = count .before in
     let done = car .before in
-    simp (c .kept5 .ensures, energy .kept4 .ensures, peak .kept3 .ensures, idle .kept2 .ensures, duration .kept .ensures, unplug .kept-number2 .ensures, plugin .kept-number .ensures, outcome .outcome-number .ensures, connector .connector-code .ensures, charger .charger-id .ensures, profile .vehicle-number2 .ensures, id .vehicle-number .ensures, row .row-of .ensures, count .u16-at .ensures .0, car .get-vehicle .ensures, done .charged .ensures, done .before .plugged .ensures)
+    simp (c .kept5 .ensures, energy .kept4 .ensures, peak .kept3 .ensures, idle .kept2 .ensures, duration .kept .ensures, unplug .kept-number2 .ensures, plugin .kept-number .ensures, outcome .outcome-number .ensures, connector .connector-code .ensures, charger .charger-id .ensures, profile .vehicle-number2 .ensures, id .vehicle-number .ensures, row .row-of .ensures, count .charger-count .ensures .0, car .get-vehicle .ensures, done .charged .ensures, done .before .plugged .ensures)
 
 pub entry-spec : {M : Type 1} → statement M
 entry-spec =
@@ -80,7 +80,7 @@ entry-spec =
     plugged-requires
     charged-requires
     get-vehicle-requires
-    u16-at-requires
+    charger-count-requires
     row-of-requires
     vehicle-number-requires
     vehicle-number-requires-2

@@ -31,14 +31,14 @@ sub-i c = omega arith
 mul-v : tie.Need-mul-v Inv-loop μ-loop
 mul-v c = omega (arith, below c)
 
-add-wide : tie.Need-add-wide Inv-loop μ-loop
-add-wide c = omega arith
+add-byte-value : tie.Need-add-byte-value Inv-loop μ-loop
+add-byte-value c = omega arith
 
-shared-slice-read-wide : tie.Need-shared-slice-read-wide Inv-loop μ-loop
-shared-slice-read-wide c = omega arith
+shared-slice-read-byte-value : tie.Need-shared-slice-read-byte-value Inv-loop μ-loop
+shared-slice-read-byte-value c = omega arith
 
-wide-requires : tie.Need-wide-requires Inv-loop μ-loop
-wide-requires c κs = search needs
+byte-value-requires : tie.Need-byte-value-requires Inv-loop μ-loop
+byte-value-requires c κs = search needs
 
 add-v : tie.Need-add-v Inv-loop μ-loop
 add-v c = omega (arith, below (c .before .before))
@@ -50,7 +50,7 @@ loop-again : tie.Need-loop-again Inv-loop μ-loop
 loop-again c =
     let at-loop = c .before .before .before in
     let a = at-loop .before .before .args in
-    (omega arith, get-step (a .s .now) (a .at) (a .n) _ _ (at-loop .loop .i) (omega arith) (omega arith) (at-loop .loop .inv .1) (c .wide .ensures .0))
+    (omega arith, get-step (a .s .now) (a .at) (a .n) _ _ (at-loop .loop .i) (omega arith) (omega arith) (at-loop .loop .inv .1) (c .byte-value .ensures .0))
 
 returns : tie.Need-returns Inv-loop μ-loop
 returns c =
@@ -67,9 +67,9 @@ get-spec =
     loop-holds
     sub-i
     mul-v
-    add-wide
-    shared-slice-read-wide
-    wide-requires
+    add-byte-value
+    shared-slice-read-byte-value
+    byte-value-requires
     add-v
     loop-less
     loop-again

@@ -1,8 +1,8 @@
 -- `files::call::by_events` meets its contract. Assumes nothing.
 use borrow.Author.Needs.{needs}
 use denote.Ref.{now}
-use Rattle.charger.proofs.Part.{length-mapped}
-use Rattle.engine.specs.Code.{planOf}
+use Rattle.charger.proofs.waiting_queue.Part.{length-mapped}
+use Rattle.engine.specs.Code.Simulation.{planOf}
 use Rattle.files.proofs.RunLaws.{shows-events}
 use Rattle.files.proofs.call.by_events.Statement.{statement}
 use Rattle.files.proofs.call.by_events.Tie as tie

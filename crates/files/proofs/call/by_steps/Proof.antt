@@ -2,7 +2,7 @@
 use borrow.Author.Needs.{needs}
 use native.Mathlib.Omega.{arith}
 use denote.Ref.{now}
-use Rattle.engine.specs.Code.{planOf}
+use Rattle.engine.specs.Code.Simulation.{planOf}
 use Rattle.files.proofs.RunLaws.{shows-steps}
 use Rattle.files.proofs.call.by_steps.Statement.{statement}
 use Rattle.files.proofs.call.by_steps.Tie as tie
@@ -17,7 +17,7 @@ run-requires : tie.Need-run-requires
 run-requires c κs =
     let s = c .before .before .before in
     let r = s .pre .0 .0 in
-    (record { nine = omega (arith, r .chargers); three = omega (arith, r .chargers) }, (record { few = r .chargers; profiles = r .profiles }, ((r .vehicles, r .times), (s .pre .1, s .pre .0 .1))))
+    (record { float-rows = omega (arith, r .chargers); byte-rows = omega (arith, r .chargers) }, (record { few = r .chargers; profiles = r .profiles }, ((r .vehicles, r .times), (s .pre .1, s .pre .0 .1))))
 
 count-up-requires : tie.Need-count-up-requires
 count-up-requires c κs = search needs

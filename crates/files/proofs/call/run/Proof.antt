@@ -7,33 +7,35 @@ use Rattle.files.specs.Plan.{checkBlocks}
 use Rattle.files.specs.Check.{thenPairs, pairAnswer}
 use Rattle.files.specs.Pairs.{failingPair}
 use Rattle.files.specs.Read.{readPlan}
-use Rattle.files.specs.Call.{stopOf, totals, orElse, answerOf}
-use Rattle.files.specs.declared.plan.Answer.{Answer}
-use Rattle.files.specs.declared.call.RunAnswer.the-variants.{Stopped}
-use Rattle.files.proofs.Demanded.{units-used, no-free-fits, one-spot, add-up, closed-stay, exact-waits, events-end}
+use Rattle.files.specs.Call.{stopOf, totals, ifFine, answerOf}
+use Rattle.files.specs.declared.answer.Answer.{Answer}
+use Rattle.files.specs.declared.answer.RunAnswer.the-variants.{EngineAbove, AllowanceAbove, BookUnder, PlanRefused, Stopped}
+use Rattle.files.proofs.Demanded.{promised}
 use Rattle.files.proofs.RunLaws.{engine-above, allowance-above, book-under, by-plan}
 use Rattle.files.proofs.call.run.Statement.{statement}
 use Rattle.files.proofs.call.run.Tie as tie
-
--- demand 3 says nothing of a refusal
-none : Unit {0} × (Unit {0} × (Unit {0} × (Unit {0} × (Unit {0} × (Unit {0} × Unit {0})))))
-none = (tt, (tt, (tt, (tt, (tt, (tt, tt))))))
 
 -- once the first three tests are passed, the plan decides
 planned : (c : tie.Else3) (a : Answer) → let x = c .before .before .before .before .before .args in
     checkBlocks (now (x .plan)) ≡ a
     → answerOf (now (x .plan)) (x .engine) (x .allowance) (length (now (x .book)))
-    ≡ orElse (thenPairs a (pairAnswer (now (x .plan)) (failingPair (readPlan (now (x .plan)))))) (Stopped (totals (stopOf (readPlan (now (x .plan))) (x .engine) (x .allowance))))
+    ≡ ifFine (thenPairs a (pairAnswer (now (x .plan)) (failingPair (readPlan (now (x .plan)))))) (Stopped (totals (stopOf (readPlan (now (x .plan))) (x .engine) (x .allowance))))
 planned c = by-plan _ _ _ _ (c .before .before .if1 .left) (c .before .if2 .left) (c .if3 .left)
 
 returns : tie.Need-returns
-returns c = (engine-above _ _ _ _ (c .if1 .taken), (refl, none))
+returns c =
+    let e = engine-above _ _ _ _ (c .if1 .taken) in
+    (e, (refl, promised _ _ _ _ EngineAbove e (c .before .before .before .args .book .now) _ refl tt))
 
 returns-2 : tie.Need-returns-2
-returns-2 c = (allowance-above _ _ _ _ (c .before .if1 .left) (c .if2 .taken), (refl, none))
+returns-2 c =
+    let e = allowance-above _ _ _ _ (c .before .if1 .left) (c .if2 .taken) in
+    (e, (refl, promised _ _ _ _ AllowanceAbove e (c .before .before .before .before .args .book .now) _ refl tt))
 
 returns-3 : tie.Need-returns-3
-returns-3 c = (book-under _ _ _ _ (c .before .before .if1 .left) (c .before .if2 .left) (c .if3 .taken), (refl, none))
+returns-3 c =
+    let e = book-under _ _ _ _ (c .before .before .if1 .left) (c .before .if2 .left) (c .if3 .taken) in
+    (e, (refl, promised _ _ _ _ BookUnder e (c .before .before .before .before .before .args .book .now) _ refl tt))
 
 check-blocks-requires : tie.Need-check-blocks-requires
 check-blocks-requires c κs = search needs
@@ -47,11 +49,8 @@ run-blocks-requires c κs =
     let e = at-blocks .before in
     (sym (at-blocks .check-blocks .ensures) ∙ c .before .enum-told .given .1, (e .before .before .if1 .left, e .before .if2 .left, e .if3 .left))
 
-enum-told-2 : tie.Need-enum-told-2
-enum-told-2 c = search needs
-
-enum-told-3 : tie.Need-enum-told-3
-enum-told-3 c = search needs
+enum-known-answer : tie.Need-enum-known-answer
+enum-known-answer c = search needs
 
 same-length : tie.Need-same-length
 same-length c = search needs
@@ -64,32 +63,13 @@ returns-4 c =
     let r = at-run .run-blocks .result in
     let answer : r ≡ answerOf (now (x .plan)) (x .engine) (x .allowance) (length (now (x .book))) =
     at-run .run-blocks .ensures .0 ∙ sym (planned (at-blocks .before) _ (sym (at-blocks .check-blocks .ensures) ∙ at-run .before .before .enum-told .given .1))
-    in (
-      answer,
-      (
-        at-run .run-blocks .ensures .1,
-        (
-          units-used _ _ _ _ r answer,
-          (
-            no-free-fits _ _ _ _ r answer,
-            (
-              one-spot _ _ _ _ r answer,
-              (add-up _ _ _ _ r answer, (closed-stay _ _ _ _ r answer, (exact-waits _ _ _ _ r answer, events-end _ _ _ _ r answer))),
-            ),
-          ),
-        ),
-      ),
-    )
+    in (answer, (at-run .run-blocks .ensures .1 .0, promised _ _ _ _ r answer _ _ (at-run .run-blocks .ensures .1 .0) (at-run .run-blocks .ensures .1 .1)))
 
 returns-5 : tie.Need-returns-5
 returns-5 c =
-    let at-blocks = c .before .before in
-    (rw (c .enum-told2 .given .1) (sym (planned (at-blocks .before) _ (sym (at-blocks .check-blocks .ensures) ∙ c .enum-told2 .given .1))), (refl, none))
-
-returns-6 : tie.Need-returns-6
-returns-6 c =
-    let at-blocks = c .before .before in
-    (rw (c .enum-told3 .given .1) (sym (planned (at-blocks .before) _ (sym (at-blocks .check-blocks .ensures) ∙ c .enum-told3 .given .1))), (refl, none))
+    let at-blocks = c .before .before .before in
+    let e = sym (planned (at-blocks .before) _ (sym (at-blocks .check-blocks .ensures) ∙ c .before .answer .given .1)) in
+    (e, (refl, promised _ _ _ _ (PlanRefused _) e (at-blocks .before .before .before .before .before .before .args .book .now) _ refl tt))
 
 pub run-spec : {M : Type 1} → statement M
 run-spec =
@@ -101,9 +81,7 @@ run-spec =
     check-blocks-requires
     enum-told
     run-blocks-requires
-    enum-told-2
-    enum-told-3
+    enum-known-answer
     same-length
     returns-4
-    returns-5
-    returns-6)
+    returns-5)

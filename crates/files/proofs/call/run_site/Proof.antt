@@ -4,9 +4,9 @@ use mathlib.Core.List.{List}
 use Prim.Native.Nat.{ℕ}
 use borrow.Author.Needs.{needs}
 use denote.Ref.{now}
-use Rattle.engine.specs.Code.{planOf}
+use Rattle.engine.specs.Code.Simulation.{planOf}
 use Rattle.files.specs.Book.{written}
-use Rattle.files.proofs.RunLaws.{runnable, rising, plan-read, writable, book-shown, counts-shown}
+use Rattle.files.proofs.RunLaws.{runnable, rising, plan-read, writable, book-shown, back-shown, counts-shown}
 use Rattle.files.proofs.call.run_site.Statement.{statement}
 use Rattle.files.proofs.call.run_site.Tie as tie
 
@@ -34,11 +34,15 @@ returns c =
     let s = c .before .before .before .before .before .before .before .before .before .before .before .before in
     let a = s .args in
     let ran = c .before .before .before .before .before .before .before .before .by-engine in
-    let p = planOf (a .site) (a .rows) (now (a .curves)) (now (a .lens)) in (
-      counts-shown (now (a .plan)) (a .engine) (a .allowance) p (ran .result) (plan-read (s .pre .0 .0) (s .pre .0 .1)) (ran .ensures),
-      c .before .before .write-book .ensures
-          ∙ ap (λ (f : List ℕ). written f (now (a .book)))
-          (book-shown (now (a .plan)) (a .engine) (a .allowance) (c .before .before .before .flag .result) p (ran .result) (plan-read (s .pre .0 .0) (s .pre .0 .1)) (ran .ensures) (c .before .before .before .flag .ensures)),
+    let flag = c .before .before .before .flag in
+    let wrote = c .before .before .write-book .ensures in
+    let p = planOf (a .site) (a .rows) (now (a .curves)) (now (a .lens)) in
+    let read = plan-read (s .pre .0 .0) (s .pre .0 .1) in (
+      counts-shown (now (a .plan)) (a .engine) (a .allowance) p (ran .result) read (ran .ensures),
+      (
+        wrote .0 ∙ ap (λ (f : List ℕ). written f (now (a .book))) (book-shown (now (a .plan)) (a .engine) (a .allowance) (flag .result) p (ran .result) read (ran .ensures) (flag .ensures)),
+        back-shown (now (a .plan)) _ (a .engine) (a .allowance) (flag .result) p (ran .result) read (ran .ensures) (flag .ensures) (wrote .1),
+      ),
     )
 
 pub run-site-spec : {M : Type 1} → statement M

@@ -18,9 +18,6 @@ check-pairs-requires c κs = counted _ (sym (c .before .before .check-blocks .en
 enum-told-2 : tie.Need-enum-told-2
 enum-told-2 c = search needs
 
-enum-told-3 : tie.Need-enum-told-3
-enum-told-3 c = search needs
-
 returns : tie.Need-returns
 unfolding checkPlan
 returns c = rw (← c .before .before .before .check-blocks .ensures, c .before .enum-told .given .1) (c .check-pairs .ensures)
@@ -28,10 +25,6 @@ returns c = rw (← c .before .before .before .check-blocks .ensures, c .before 
 returns-2 : tie.Need-returns-2
 unfolding checkPlan
 returns-2 c = rw (← c .before .before .check-blocks .ensures, c .enum-told2 .given .1)
-
-returns-3 : tie.Need-returns-3
-unfolding checkPlan
-returns-3 c = rw (← c .before .before .check-blocks .ensures, c .enum-told3 .given .1)
 
 pub check-plan-spec : {M : Type 1} → statement M
 check-plan-spec =
@@ -41,7 +34,5 @@ check-plan-spec =
     enum-told
     check-pairs-requires
     enum-told-2
-    enum-told-3
     returns
-    returns-2
-    returns-3)
+    returns-2)

@@ -8,13 +8,13 @@ use native.Mathlib.Omega.{arith}
 use borrow.Author.Needs.{needs}
 use lib.Ieee.{Float}
 use lib.ListN.{length, take}
-use Rattle.curve.specs.Curve.{points}
+use Rattle.curve.specs.Code.Rows.{points}
 use Rattle.curve.specs.declared.units.Kwh.{Kwh}
 use Rattle.charger.specs.declared.charger.Charger.{Charger}
 use Rattle.charger.specs.declared.vehicle.Vehicle.{Vehicle}
 use Rattle.engine.specs.Plan.{chargerAt, rowAt}
-use Rattle.files.proofs.PairLaws.{charger-inside, row-inside}
-use Rattle.files.specs.Search.{first}
+use Rattle.files.proofs.pairs.Laws.{charger-inside, row-inside}
+use Rattle.files.specs.Search.{firstIndex}
 use Rattle.files.specs.Pairs.{fails}
 use Rattle.files.proofs.SearchLaws.{first-again, first-found, first-none}
 use Rattle.files.proofs.pairs.failing_charger.Statement.{statement}
@@ -25,7 +25,7 @@ abbrev test : List (List Float) → Kwh → Vehicle → ℕ → List Charger →
 test curve battery vehicle count chargers rows j = fails (points curve) battery vehicle (chargerAt (take count chargers) j) (rowAt (take count rows) j)
 
 abbrev Inv-loop : tie.InvT-loop
-Inv-loop curve battery vehicle count chargers rows c₀ c = first (test curve battery vehicle count chargers rows) c (count - c) ≡ first (test curve battery vehicle count chargers rows) 0 count
+Inv-loop curve battery vehicle count chargers rows c₀ c = firstIndex (test curve battery vehicle count chargers rows) c (count - c) ≡ firstIndex (test curve battery vehicle count chargers rows) 0 count
 
 abbrev μ-loop : tie.MeasureT-loop
 μ-loop curve battery vehicle count chargers rows c₀ c = count - c

@@ -6,20 +6,21 @@ use native.Mathlib.Omega.{arith}
 use borrow.Author.Needs.{needs}
 use lib.ListN.{length, take}
 use lib.Seq.{length-take-le}
-use Rattle.charger.specs.Vehicle.{listed, noVehicle}
-use Rattle.charger.proofs.Part.{length-mapped}
-use Rattle.engine.specs.Code.{planOf}
-use Rattle.engine.proofs.At.{at-inside}
-use Rattle.files.specs.Search.{first}
+use Rattle.charger.specs.Code.Vehicles.{listed}
+use Rattle.charger.specs.Vehicle.{noVehicle}
+use Rattle.charger.proofs.waiting_queue.Part.{length-mapped}
+use Rattle.engine.specs.Code.Simulation.{planOf}
+use Rattle.engine.proofs.site.At.{at-inside}
+use Rattle.files.specs.Search.{firstIndex}
 use Rattle.files.specs.Pairs.{failsSomewhere, failingCharger}
-use Rattle.files.proofs.PairLaws.{pair-met, pair-passed, pair-none}
+use Rattle.files.proofs.pairs.Laws.{pair-met, pair-passed, pair-none}
 use Rattle.files.proofs.pairs.failing_pair.Statement.{statement}
 use Rattle.files.proofs.pairs.failing_pair.Tie as tie
 
 abbrev Inv-loop : tie.InvT-loop
 Inv-loop site rows curves lens vehicles chargers count n v₀ v =
     let p = planOf site rows curves lens in
-    (v ≤ site .vehicles .len) × (first (failsSomewhere p) v (site .vehicles .len - v) ≡ first (failsSomewhere p) 0 (site .vehicles .len))
+    (v ≤ site .vehicles .len) × (firstIndex (failsSomewhere p) v (site .vehicles .len - v) ≡ firstIndex (failsSomewhere p) 0 (site .vehicles .len))
 
 abbrev μ-loop : tie.MeasureT-loop
 μ-loop site rows curves lens vehicles chargers count n v₀ v = site .vehicles .len - v

@@ -3,14 +3,14 @@ use borrow.Author.Needs.{needs}
 use Rattle.files.proofs.plan.counts_ok.Statement.{statement}
 use Rattle.files.proofs.plan.counts_ok.Tie as tie
 
-u16-at-requires : tie.Need-u16-at-requires
-u16-at-requires c κs = search needs
+profile-count-requires : tie.Need-profile-count-requires
+profile-count-requires c κs = search needs
 
-u16-at-requires-2 : tie.Need-u16-at-requires-2
-u16-at-requires-2 c κs = search needs
+charger-count-requires : tie.Need-charger-count-requires
+charger-count-requires c κs = search needs
 
-u16-at-requires-3 : tie.Need-u16-at-requires-3
-u16-at-requires-3 c κs = search needs
+vehicle-count-requires : tie.Need-vehicle-count-requires
+vehicle-count-requires c κs = search needs
 
 letters-ok-requires : tie.Need-letters-ok-requires
 letters-ok-requires c κs = search needs
@@ -31,9 +31,9 @@ pub counts-ok-spec : {M : Type 1} → statement M
 counts-ok-spec =
     tie.close
     (tie.spec
-    u16-at-requires
-    u16-at-requires-2
-    u16-at-requires-3
+    profile-count-requires
+    charger-count-requires
+    vehicle-count-requires
     letters-ok-requires
     add-result
     add-result-2

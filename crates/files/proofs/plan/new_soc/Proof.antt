@@ -8,7 +8,7 @@ use native.Mathlib.Omega.{arith}
 use lib.Ieee.{Float, nan, eq}
 use lib.ListN.{getD}
 use Rattle.files.specs.Search.{every}
-use Rattle.files.specs.Plan.{newAmong}
+use Rattle.files.specs.Code.Reading.{newAmong}
 use Rattle.files.proofs.SearchLaws.{every-joined, every-known}
 use Rattle.files.proofs.plan.new_soc.Statement.{statement}
 use Rattle.files.proofs.plan.new_soc.Tie as tie

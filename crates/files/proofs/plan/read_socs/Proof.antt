@@ -5,7 +5,7 @@ use native.Mathlib.Omega.{arith}
 use lib.ListN.{length, take, length-set}
 use Rattle.files.specs.Search.{each}
 use Rattle.files.proofs.SearchLaws.{fill-step}
-use Rattle.files.proofs.PlanLaws.{socAt}
+use Rattle.files.proofs.plan.Laws.{socAt}
 use Rattle.files.proofs.plan.read_socs.Statement.{statement}
 use Rattle.files.proofs.plan.read_socs.Tie as tie
 

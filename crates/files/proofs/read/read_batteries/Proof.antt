@@ -6,7 +6,7 @@ use lib.ListN.{length, take, length-set}
 use Rattle.files.specs.Search.{each}
 use Rattle.files.proofs.SearchLaws.{fill-step}
 use Rattle.files.specs.Read.{batteryOf}
-use Rattle.files.proofs.ReadLaws.{all-batteries}
+use Rattle.files.proofs.read.Laws.{all-batteries}
 use Rattle.files.proofs.read.read_batteries.Statement.{statement}
 use Rattle.files.proofs.read.read_batteries.Tie as tie
 

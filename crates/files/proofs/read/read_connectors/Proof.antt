@@ -5,7 +5,8 @@ use native.Mathlib.Omega.{arith}
 use lib.ListN.{length, take, length-set}
 use Rattle.files.specs.Search.{each}
 use Rattle.files.proofs.SearchLaws.{fill-step}
-use Rattle.files.specs.Read.{chargerBlock, rowOfCharger, connectorsOf}
+use Rattle.files.specs.Read.{rowOfCharger, connectorRows}
+use Rattle.files.specs.Places.{chargerBlock}
 use Rattle.files.proofs.read.read_connectors.Statement.{statement}
 use Rattle.files.proofs.read.read_connectors.Tie as tie
 
@@ -15,14 +16,11 @@ Inv-loop plan start n rows₀ i₀ rows i = (i ≤ n) × ((length rows ≡ 32) �
 abbrev μ-loop : tie.MeasureT-loop
 μ-loop plan start n rows₀ i₀ rows i = n - i
 
-u16-at-requires : tie.Need-u16-at-requires Inv-loop μ-loop
-u16-at-requires c κs = omega arith
+start-of-requires : tie.Need-start-of-requires Inv-loop μ-loop
+start-of-requires c κs = omega arith
 
-add-start : tie.Need-add-start Inv-loop μ-loop
-add-start c = omega arith
-
-u16-at-requires-2 : tie.Need-u16-at-requires-2 Inv-loop μ-loop
-u16-at-requires-2 c κs = omega arith
+charger-count-requires : tie.Need-charger-count-requires Inv-loop μ-loop
+charger-count-requires c κs = omega arith
 
 loop-holds : tie.Need-loop-holds Inv-loop μ-loop
 unfolding each
@@ -54,15 +52,15 @@ loop-again c =
     let at-loop = c .before .before .before in
     let a = at-loop .before .before .before .before .args in
     let same : c .read-row .result ≡ rowOfCharger (chargerBlock (a .plan .now) (at-loop .loop .i)) =
-    c .read-row .ensures ∙ rw (c .before .block .ensures .0, at-loop .before .before .u16-at .ensures .0) in
+    c .read-row .ensures ∙ rw (c .before .block .ensures .0, at-loop .before .before .start-of .ensures .0) in
     (omega arith, (simp length-set (at-loop .loop .inv .1 .0), fill-step (λ j. rowOfCharger (chargerBlock (a .plan .now) j)) (at-loop .loop .rows) (at-loop .loop .i) _ (omega arith) (at-loop .loop .inv .1 .1) same))
 
 returns : tie.Need-returns Inv-loop μ-loop
-unfolding connectorsOf
+unfolding connectorRows
 returns c =
     let at-loop = c .before in
-    let e : at-loop .loop .i ≡ at-loop .before .u16-at2 .result = omega arith in
-    rw (← at-loop .before .u16-at2 .ensures .0, ← e) (at-loop .loop .inv .1 .1)
+    let e : at-loop .loop .i ≡ at-loop .before .charger-count .result = omega arith in
+    rw (← at-loop .before .charger-count .ensures .0, ← e) (at-loop .loop .inv .1 .1)
 
 pub read-connectors-spec : {M : Type 1} → statement M
 read-connectors-spec =
@@ -70,9 +68,8 @@ read-connectors-spec =
     (tie.spec
     Inv-loop
     μ-loop
-    u16-at-requires
-    add-start
-    u16-at-requires-2
+    start-of-requires
+    charger-count-requires
     loop-holds
     add-block
     block-requires

@@ -7,14 +7,11 @@ use Rattle.files.specs.Read.{curveOfProfile, pointsOf}
 use Rattle.files.proofs.read.read_curve.Statement.{statement}
 use Rattle.files.proofs.read.read_curve.Tie as tie
 
-u16-at-requires : tie.Need-u16-at-requires
-u16-at-requires c κs = search needs
+profile-count-requires : tie.Need-profile-count-requires
+profile-count-requires c κs = search needs
 
-add-block : tie.Need-add-block
-add-block c = search needs
-
-block-requires : tie.Need-block-requires
-block-requires c κs = search needs
+block-of-requires : tie.Need-block-of-requires
+block-of-requires c κs = search needs
 
 point-count-requires : tie.Need-point-count-requires
 point-count-requires c κs = search needs
@@ -35,19 +32,18 @@ returns c =
     let at-store = at-new .before .before .before in
     let at-count = at-store .before .before in
     let at-if = at-count .before .before in
-    (at-new .new .ensures .1 ∙ rw (at-store .store-points .ensures, ← at-if .before .u16-at .ensures .0, lt-ltb _ _ (at-if .if1 .taken), ← at-count .before .block .ensures .0, ← at-count .point-count .ensures .0), omega arith)
+    (at-new .new .ensures .1 ∙ rw (at-store .store-points .ensures, ← at-if .before .profile-count .ensures .0, lt-ltb _ _ (at-if .if1 .taken), ← at-count .before .block-of .ensures .0, ← at-count .point-count .ensures .0), omega arith)
 
 returns-2 : tie.Need-returns-2
 unfolding curveOfProfile
-returns-2 c = (rw (← c .before .u16-at .ensures .0, le-ltb _ _ (c .if1 .left)), omega arith)
+returns-2 c = (rw (← c .before .profile-count .ensures .0, le-ltb _ _ (c .if1 .left)), omega arith)
 
 pub read-curve-spec : {M : Type 1} → statement M
 read-curve-spec =
     tie.close
     (tie.spec
-    u16-at-requires
-    add-block
-    block-requires
+    profile-count-requires
+    block-of-requires
     point-count-requires
     store-points-requires
     new-requires

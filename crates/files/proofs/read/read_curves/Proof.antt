@@ -4,7 +4,7 @@ use mathlib.Core.Path.{_≡_}
 use native.Mathlib.Omega.{arith}
 use lib.ListN.{length, length-set}
 use borrow.Author.Needs.{needs}
-use Rattle.files.proofs.ReadLaws.{Filled, fill-curve, all-curves}
+use Rattle.files.proofs.read.Laws.{Filled, fill-curve, all-curves}
 use Rattle.files.proofs.read.read_curves.Statement.{statement}
 use Rattle.files.proofs.read.read_curves.Tie as tie
 

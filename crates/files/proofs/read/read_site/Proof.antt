@@ -9,8 +9,8 @@ read-vehicles-requires c κs = search needs
 read-chargers-requires : tie.Need-read-chargers-requires
 read-chargers-requires c κs = search needs
 
-u16-at-requires : tie.Need-u16-at-requires
-u16-at-requires c κs = search needs
+charger-count-requires : tie.Need-charger-count-requires
+charger-count-requires c κs = search needs
 
 read-batteries-requires : tie.Need-read-batteries-requires
 read-batteries-requires c κs = search needs
@@ -25,8 +25,8 @@ returns c =
     record {
       vehicles = vehicles .0;
       vehicleCount = vehicles .1;
-      chargers = rw (at-count .u16-at .ensures .0) (at-count .before .read-chargers .ensures);
-      chargerCount = at-count .u16-at .ensures .0;
+      chargers = rw (at-count .charger-count .ensures .0) (at-count .before .read-chargers .ensures);
+      chargerCount = at-count .charger-count .ensures .0;
       batteries = c .before .read-batteries .ensures;
       limit = c .read-limit .ensures;
     }
@@ -37,7 +37,7 @@ read-site-spec =
     (tie.spec
     read-vehicles-requires
     read-chargers-requires
-    u16-at-requires
+    charger-count-requires
     read-batteries-requires
     read-limit-requires
     returns)

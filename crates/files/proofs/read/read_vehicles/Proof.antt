@@ -15,20 +15,11 @@ Inv-loop plan start n all₀ i₀ all i = (i ≤ n) × ((length all ≡ 64) × (
 abbrev μ-loop : tie.MeasureT-loop
 μ-loop plan start n all₀ i₀ all i = n - i
 
-u16-at-requires : tie.Need-u16-at-requires Inv-loop μ-loop
-u16-at-requires c κs = omega arith
+start-of-requires : tie.Need-start-of-requires Inv-loop μ-loop
+start-of-requires c κs = omega arith
 
-add-start : tie.Need-add-start Inv-loop μ-loop
-add-start c = omega arith
-
-u16-at-requires-2 : tie.Need-u16-at-requires-2 Inv-loop μ-loop
-u16-at-requires-2 c κs = omega arith
-
-add-start-2 : tie.Need-add-start-2 Inv-loop μ-loop
-add-start-2 c = omega arith
-
-u16-at-requires-3 : tie.Need-u16-at-requires-3 Inv-loop μ-loop
-u16-at-requires-3 c κs = omega arith
+vehicle-count-requires : tie.Need-vehicle-count-requires Inv-loop μ-loop
+vehicle-count-requires c κs = omega arith
 
 loop-holds : tie.Need-loop-holds Inv-loop μ-loop
 unfolding each
@@ -43,8 +34,8 @@ block-requires c κs = omega arith
 u32-at-requires : tie.Need-u32-at-requires Inv-loop μ-loop
 u32-at-requires c κs = omega arith
 
-profile-place-requires : tie.Need-profile-place-requires Inv-loop μ-loop
-profile-place-requires c κs = omega arith
+profile-index-requires : tie.Need-profile-index-requires Inv-loop μ-loop
+profile-index-requires c κs = omega arith
 
 read-vehicle-requires : tie.Need-read-vehicle-requires Inv-loop μ-loop
 read-vehicle-requires c κs = omega arith
@@ -66,18 +57,18 @@ unfolding vehicleIn
 loop-again c =
     let at-block = c .before .before .before in
     let at-loop = at-block .before .before in
-    let counts = at-loop .before .before .before in
+    let counts = at-loop .before .before in
     let a = counts .before .before .args in
     let same : c .read-vehicle .result ≡ vehicleIn (a .plan .now) (at-loop .loop .i) =
-    c .read-vehicle .ensures ∙ rw (c .before .profile-place .ensures, c .before .before .u32-at .ensures, at-block .block .ensures .0, counts .u16-at .ensures .0, at-loop .before .before .u16-at2 .ensures .0) in
+    c .read-vehicle .ensures ∙ rw (c .before .profile-index .ensures, c .before .before .u32-at .ensures, at-block .block .ensures .0, counts .start-of .ensures .0) in
     (omega arith, (simp length-set (at-loop .loop .inv .1 .0), fill-step (vehicleIn (a .plan .now)) (at-loop .loop .all) (at-loop .loop .i) _ (omega arith) (at-loop .loop .inv .1 .1) same))
 
 returns : tie.Need-returns Inv-loop μ-loop
 unfolding vehiclesOf
 returns c =
     let at-loop = c .before in
-    let e : at-loop .loop .i ≡ at-loop .before .u16-at3 .result = omega arith in
-    (rw (← at-loop .before .u16-at3 .ensures .0, ← e) (at-loop .loop .inv .1 .1), at-loop .before .u16-at3 .ensures .0)
+    let e : at-loop .loop .i ≡ at-loop .before .vehicle-count .result = omega arith in
+    (rw (← at-loop .before .vehicle-count .ensures .0, ← e) (at-loop .loop .inv .1 .1), at-loop .before .vehicle-count .ensures .0)
 
 pub read-vehicles-spec : {M : Type 1} → statement M
 read-vehicles-spec =
@@ -85,16 +76,13 @@ read-vehicles-spec =
     (tie.spec
     Inv-loop
     μ-loop
-    u16-at-requires
-    add-start
-    u16-at-requires-2
-    add-start-2
-    u16-at-requires-3
+    start-of-requires
+    vehicle-count-requires
     loop-holds
     add-block
     block-requires
     u32-at-requires
-    profile-place-requires
+    profile-index-requires
     read-vehicle-requires
     mul-all
     array-set-from-all

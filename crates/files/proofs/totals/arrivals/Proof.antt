@@ -6,12 +6,12 @@ use borrow.Author.Needs.{needs}
 use native.Mathlib.Omega.{arith}
 use lib.ListN.{length, getD}
 use Rattle.charger.specs.Lists.{tick}
-use Rattle.charger.specs.Queue.{part}
+use Rattle.charger.specs.Code.Queue.{part}
 use Rattle.engine.specs.declared.events.Event.{Event}
-use Rattle.charger.proofs.Part.{length-mapped}
+use Rattle.charger.proofs.waiting_queue.Part.{length-mapped, count-on, count-end}
 use Rattle.engine.specs.Events.{arrival}
 use Rattle.engine.specs.Demand.{isArrival, arrives, anyone, yetToArrive}
-use Rattle.files.proofs.Counting.{tick-le, count-on, count-end}
+use Rattle.charger.proofs.Lists.{tick-le}
 use Rattle.files.proofs.totals.arrivals.Statement.{statement}
 use Rattle.files.proofs.totals.arrivals.Tie as tie
 

@@ -2,9 +2,9 @@
 use mathlib.Core.Path.{_≡_, sym}
 use borrow.Author.Needs.{needs}
 use lib.ListN.{length}
-use Rattle.charger.proofs.Part.{length-mapped}
-use Rattle.charger.specs.Queue.{waiting}
-use Rattle.engine.proofs.Simulations.{length-waiting}
+use Rattle.charger.proofs.waiting_queue.Part.{length-mapped}
+use Rattle.charger.specs.Code.Queue.{waiting}
+use Rattle.engine.proofs.site.Simulations.{length-waiting}
 use Rattle.files.proofs.totals.count_up.Statement.{statement}
 use Rattle.files.proofs.totals.count_up.Tie as tie
 

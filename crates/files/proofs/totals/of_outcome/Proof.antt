@@ -6,13 +6,13 @@ use native.Mathlib.Omega.{arith}
 use lib.Dec.{eqb}
 use lib.ListN.{length, getD}
 use Rattle.charger.specs.Lists.{tick}
-use Rattle.charger.specs.Queue.{part}
-use Rattle.charger.proofs.Part.{length-mapped}
+use Rattle.charger.specs.Code.Queue.{part}
+use Rattle.charger.proofs.waiting_queue.Part.{length-mapped, count-on, count-end}
 use lib.Ieee.{nan}
 use Rattle.engine.specs.declared.session.Session.{Session}
 use Rattle.engine.specs.declared.session.Outcome.the-variants.{Open}
-use Rattle.engine.specs.Demand.{ofOutcome, sessionsOf}
-use Rattle.files.proofs.Counting.{tick-le, count-on, count-end}
+use Rattle.engine.specs.Demand.{ofOutcome, sessionsWith}
+use Rattle.charger.proofs.Lists.{tick-le}
 use Rattle.files.proofs.totals.of_outcome.Statement.{statement}
 use Rattle.files.proofs.totals.of_outcome.Tie as tie
 
@@ -34,7 +34,7 @@ none =
 
 abbrev Inv-loop : tie.InvT-loop
 Inv-loop number all n count₀ i₀ count i =
-    (length all ≡ 64) × (i ≤ n) × (n ≤ 64) × (count ≤ i) × (count + sessionsOf number (part i n all) ≡ sessionsOf number (part 0 n all))
+    (length all ≡ 64) × (i ≤ n) × (n ≤ 64) × (count ≤ i) × (count + sessionsWith number (part i n all) ≡ sessionsWith number (part 0 n all))
 
 abbrev μ-loop : tie.MeasureT-loop
 μ-loop number all n count₀ i₀ count i = n - i

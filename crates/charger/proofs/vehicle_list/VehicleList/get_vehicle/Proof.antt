@@ -5,7 +5,7 @@ use borrow.Author.Needs.{needs}
 use native.Mathlib.Omega.{arith}
 use lib.ListN.{length, take, length-take, List·getD-eq-default}
 use lib.Seq.{getD-take}
-use Rattle.charger.proofs.Part.{getD-any, length-mapped}
+use Rattle.charger.proofs.waiting_queue.Part.{getD-any, length-mapped}
 use Rattle.charger.proofs.vehicle_list.VehicleList.get_vehicle.Statement.{statement}
 use Rattle.charger.proofs.vehicle_list.VehicleList.get_vehicle.Tie as tie
 

@@ -2,9 +2,10 @@
 use mathlib.Core.Path.{sym, ap, _∙_}
 use Prim.Native.Nat.{ℕ}
 use borrow.Author.Needs.{needs}
-use Rattle.charger.specs.Vehicle.{listed, fitsAt}
-use Rattle.charger.specs.Queue.{waiting, takenAt}
-use Rattle.charger.proofs.Part.{first-taken}
+use Rattle.charger.specs.Code.Vehicles.{listed}
+use Rattle.charger.specs.Vehicle.{fitsAt}
+use Rattle.charger.specs.Code.Queue.{waiting, takenAt}
+use Rattle.charger.proofs.waiting_queue.Part.{first-taken}
 use Rattle.charger.proofs.waiting_queue.WaitingQueue.pop_compatible.Statement.{statement}
 use Rattle.charger.proofs.waiting_queue.WaitingQueue.pop_compatible.Tie as tie
 

@@ -6,8 +6,8 @@ use borrow.Author.Tests.{eq-eqb, ne-eqb}
 use native.Mathlib.Omega.{arith}
 use lib.Dec.{eqb}
 use lib.ListN.{length, take}
-use Rattle.charger.specs.Queue.{part, seek}
-use Rattle.charger.proofs.Part.{seek-here, seek-on, seek-end}
+use Rattle.charger.specs.Code.Queue.{part, seek}
+use Rattle.charger.proofs.waiting_queue.Part.{seek-here, seek-on, seek-end}
 use Rattle.charger.proofs.waiting_queue.WaitingQueue.position.Statement.{statement}
 use Rattle.charger.proofs.waiting_queue.WaitingQueue.position.Tie as tie
 

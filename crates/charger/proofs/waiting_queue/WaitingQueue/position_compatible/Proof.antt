@@ -4,9 +4,10 @@ use Prim.Native.Nat.{_≤_, _-_, _+_}
 use borrow.Author.Needs.{needs}
 use native.Mathlib.Omega.{arith}
 use lib.ListN.{length, take}
-use Rattle.charger.specs.Vehicle.{listed, fitsAt, compatible}
-use Rattle.charger.specs.Queue.{part, seek}
-use Rattle.charger.proofs.Part.{seek-here, seek-on, seek-end}
+use Rattle.charger.specs.Code.Vehicles.{listed}
+use Rattle.charger.specs.Vehicle.{fitsAt, compatible}
+use Rattle.charger.specs.Code.Queue.{part, seek}
+use Rattle.charger.proofs.waiting_queue.Part.{seek-here, seek-on, seek-end}
 use Rattle.charger.proofs.waiting_queue.WaitingQueue.position_compatible.Statement.{statement}
 use Rattle.charger.proofs.waiting_queue.WaitingQueue.position_compatible.Tie as tie
 

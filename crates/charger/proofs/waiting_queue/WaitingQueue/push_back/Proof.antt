@@ -3,7 +3,7 @@ use mathlib.Core.Path.{_≡_, refl}
 use borrow.Author.Needs.{needs}
 use native.Mathlib.Omega.{arith}
 use lib.ListN.{length}
-use Rattle.charger.proofs.Part.{take-set}
+use Rattle.charger.proofs.waiting_queue.Part.{take-set}
 use Rattle.charger.proofs.waiting_queue.WaitingQueue.push_back.Statement.{statement}
 use Rattle.charger.proofs.waiting_queue.WaitingQueue.push_back.Tie as tie
 

@@ -3,8 +3,8 @@ use mathlib.Core.Path.{sym, ap, _∙_}
 use Prim.Native.Nat.{ℕ}
 use borrow.Author.Needs.{needs}
 use lib.Dec.{eqb}
-use Rattle.charger.specs.Queue.{waiting, takenAt}
-use Rattle.charger.proofs.Part.{first-taken}
+use Rattle.charger.specs.Code.Queue.{waiting, takenAt}
+use Rattle.charger.proofs.waiting_queue.Part.{first-taken}
 use Rattle.charger.proofs.waiting_queue.WaitingQueue.remove.Statement.{statement}
 use Rattle.charger.proofs.waiting_queue.WaitingQueue.remove.Tie as tie
 

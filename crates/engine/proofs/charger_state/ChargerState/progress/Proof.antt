@@ -9,14 +9,14 @@ enum-told c = search needs
 enum-told-2 : tie.Need-enum-told-2
 enum-told-2 c = search needs
 
-charged-requires : tie.Need-charged-requires
-charged-requires c κs = search needs
+after-charging-requires : tie.Need-after-charging-requires
+after-charging-requires c κs = search needs
 
 enum-told-3 : tie.Need-enum-told-3
 enum-told-3 c = search needs
 
-idled-requires : tie.Need-idled-requires
-idled-requires c κs = search needs
+after-idling-requires : tie.Need-after-idling-requires
+after-idling-requires c κs = search needs
 
 enum-told-4 : tie.Need-enum-told-4
 enum-told-4 c = search needs
@@ -25,10 +25,10 @@ returns : tie.Need-returns
 returns c = simp (c .enum-told .given .1)
 
 returns-2 : tie.Need-returns-2
-returns-2 c = simp (c .before .enum-told2 .given .1, c .charged .ensures)
+returns-2 c = simp (c .before .enum-told2 .given .1, c .after-charging .ensures)
 
 returns-3 : tie.Need-returns-3
-returns-3 c = simp (c .before .enum-told3 .given .1, c .idled .ensures)
+returns-3 c = simp (c .before .enum-told3 .given .1, c .after-idling .ensures)
 
 returns-4 : tie.Need-returns-4
 returns-4 c = simp (c .enum-told4 .given .1)
@@ -39,9 +39,9 @@ progress-spec =
     (tie.spec
     enum-told
     enum-told-2
-    charged-requires
+    after-charging-requires
     enum-told-3
-    idled-requires
+    after-idling-requires
     enum-told-4
     returns
     returns-2

@@ -3,7 +3,7 @@ use mathlib.Core.Path.{_≡_}
 use borrow.Author.Needs.{needs}
 use native.Mathlib.Omega.{arith}
 use lib.ListN.{length}
-use Rattle.charger.proofs.Part.{part-next, length-mapped}
+use Rattle.charger.proofs.waiting_queue.Part.{part-next, length-mapped}
 use Rattle.engine.proofs.events.EventQueue.first.Statement.{statement}
 use Rattle.engine.proofs.events.EventQueue.first.Tie as tie
 

@@ -6,10 +6,10 @@ use Prim.Native.Nat.{ℕ, _≤_, _<_, _-_, _+_}
 use borrow.Author.Needs.{needs}
 use native.Mathlib.Omega.{arith}
 use lib.ListN.{length, length-set, set}
-use Rattle.charger.specs.Queue.{part, seek}
-use Rattle.charger.proofs.Part.{seek-here, seek-on, seek-end, Opening, opening-start, opening-down, opening-set, length-mapped}
+use Rattle.charger.specs.Code.Queue.{part, seek}
+use Rattle.charger.proofs.waiting_queue.Part.{seek-here, seek-on, seek-end, Opening, opening-start, opening-down, opening-set, length-mapped}
 use Rattle.engine.specs.Events.{arrival, before}
-use Rattle.engine.proofs.Push.{push-inserted}
+use Rattle.engine.proofs.events.Push.{push-inserted}
 use Rattle.engine.proofs.events.EventQueue.pushed.Statement.{statement}
 use Rattle.engine.proofs.events.EventQueue.pushed.Tie as tie
 

@@ -3,7 +3,7 @@ use mathlib.Core.Path.{_≡_, refl}
 use borrow.Author.Needs.{needs}
 use native.Mathlib.Omega.{arith}
 use lib.ListN.{length}
-use Rattle.charger.proofs.Part.{take-set, length-mapped}
+use Rattle.charger.proofs.waiting_queue.Part.{take-set, length-mapped}
 use Rattle.engine.proofs.session.Sessions.pushed.Statement.{statement}
 use Rattle.engine.proofs.session.Sessions.pushed.Tie as tie
 

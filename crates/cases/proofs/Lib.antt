@@ -1,0 +1,2 @@
+-- The theorem over the list of cases.
+pub mod Worked

@@ -1,0 +1,114 @@
+-- Every case of the list gives what the paper says, by computation from the plan's bytes. Assumes nothing.
+use Prim.Native.Nat.{ℕ}
+use mathlib.Core.Path.{_≡_, refl, ap, _∙_}
+use mathlib.Core.List.{List, _∷_}
+use lib.Ieee.{ofBits, lt, le, ne, add, sub, mul, div, ofInt, toUnsigned}
+use Rattle.curve.specs.F64.{ceiling}
+use Rattle.curve.specs.Curve.{integrateOver, curveOf}
+use Rattle.charger.specs.Lists.{All, none, also}
+use Rattle.charger.specs.Vehicle.{compatible}
+use Rattle.charger.specs.Charger.{actualMaxPower}
+use Rattle.engine.specs.Plan.{Plan, chargerAt, fits, rated, output, stay}
+use Rattle.engine.specs.Events.{before}
+use Rattle.engine.specs.SiteState.{balks, uncharged, startCharging}
+use Rattle.engine.specs.Discrete as D
+use Rattle.engine.specs.ChargerState.{empty, afterIdling}
+use Rattle.engine.specs.ChargerState as C
+use Rattle.engine.specs.Power.{allocate}
+use Rattle.engine.specs.Timestep.{openSession, plugged, finalized, round}
+use Rattle.engine.specs.Demand.{Stop}
+use Rattle.files.specs.Blocks.{passes, block}
+use Rattle.files.specs.Search.{firstIndex, every, each}
+use Rattle.files.specs.Fields.{bytesIn, connectorsOk, pointCount, pointOk}
+use Rattle.files.specs.Places.{kindAt}
+use Rattle.files.specs.Plan.{idAt, withId, newSoc, firstRefusal, lengthOk, checkBlocks}
+use Rattle.files.specs.Read.{readPlan, pointsOf, curveOfProfile, batteryOf, chargersOf, connectorRows, profileIndex, vehicleOf, vehicleIn, vehiclesOf, limitOf}
+use Rattle.files.specs.Pairs.{failingCharger, failingPair}
+use Rattle.files.specs.Check.{checkPlan}
+use Rattle.files.specs.Call.{stopOf}
+use Rattle.files.specs.declared.answer.Answer.{Answer}
+use Rattle.files.specs.declared.answer.Answer.the-variants.{Fine, Refused}
+use Rattle.files.specs.declared.answer.Refusal.the-variants.{CannotCharge}
+use Rattle.cases.specs.Bay.{kwh, Bay, plan, bay, secondCar, atTarget, atOneKw}
+use Rattle.cases.specs.Cases.{events, steps, run, Result, ifFine, result, Worked, _gives_, Holds, worked}
+
+-- ---- a plan's bytes read, checked and run; each line `unfolding` has all that it computes by
+
+read : Bay → Plan
+unfolding plan block firstIndex each idAt withId pointCount
+    pointsOf curveOfProfile batteryOf chargersOf connectorRows profileIndex vehicleOf vehicleIn vehiclesOf limitOf
+    chargerAt compatible actualMaxPower integrateOver curveOf ofBits lt le ne add sub mul div
+read b = readPlan (plan b)
+
+check : Bay → Answer
+unfolding read passes every bytesIn connectorsOk pointOk newSoc kindAt firstRefusal lengthOk checkBlocks failingCharger failingPair checkPlan
+check b = checkPlan (plan b)
+
+stop : ℕ → ℕ → Bay → Stop
+unfolding read before startCharging balks uncharged fits rated output stay ceiling D.step D.chargedSession
+    allocate C.afterCharging afterIdling empty openSession plugged finalized round ofInt toUnsigned
+stop engine n b = stopOf (read b) engine n
+
+-- ---- each plan is checked once
+
+bay-fine : check bay ≡ Fine
+unfolding check
+bay-fine = refl
+
+m2-fine : check (secondCar 1800 10) ≡ Fine
+unfolding check
+m2-fine = refl
+
+m3-fine : check (secondCar 1820 10) ≡ Fine
+unfolding check
+m3-fine = refl
+
+m4-fine : check (secondCar 1821 10) ≡ Fine
+unfolding check
+m4-fine = refl
+
+m5-fine : check (secondCar 1800 0) ≡ Fine
+unfolding check
+m5-fine = refl
+
+m10-fine : check atTarget ≡ Fine
+unfolding check
+m10-fine = refl
+
+m12-fine : check (atOneKw (kwh 168)) ≡ Fine
+unfolding check
+m12-fine = refl
+
+m12-refused : check (atOneKw (kwh 169)) ≡ Refused (CannotCharge 4 3)
+unfolding check
+m12-refused = refl
+
+-- ---- the theorem
+
+-- a run of a plan, by what its check answers
+by : (engine n : ℕ) (b : Bay) {a : Answer} {r : Result} → check b ≡ a → ifFine a (stop engine n b) ≡ r → Holds (run engine n (plan b) gives r)
+unfolding result check stop
+by engine n b answer given = ap (λ a. ifFine a (stop engine n b)) answer ∙ given
+
+infixr 67 _and_
+_and_ : {w : Worked} {ws : List Worked} → Holds w → All Holds ws → All Holds (w ∷ ws)
+h and hs = also h hs
+
+pub worked-through : All Holds worked
+unfolding worked result stop
+worked-through =
+    by events 10 bay bay-fine refl
+    and by events 10 (secondCar 1800 10) m2-fine refl
+    and by events 10 (secondCar 1820 10) m3-fine refl
+    and by events 10 (secondCar 1821 10) m4-fine refl
+    and by events 10 (secondCar 1800 0) m5-fine refl
+    and by events 0 bay bay-fine refl
+    and by steps 0 bay bay-fine refl
+    and refl
+    and refl
+    and refl
+    and by steps 10 atTarget m10-fine refl
+    and by events 10 atTarget m10-fine refl
+    and by events 10 (atOneKw (kwh 168)) m12-fine refl
+    and by events 10 (atOneKw (kwh 169)) m12-refused refl
+    and none

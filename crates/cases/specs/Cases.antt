@@ -1,0 +1,176 @@
+-- Rules. M1 to M12 of the paper's bay worked through: one list of cases, each with what it gives.
+use Prim.Native.Nat.{ℕ, _-_}
+use mathlib.Core.Path.{_≡_}
+use mathlib.Core.Bool.{Bool, true, false}
+use mathlib.Core.List.{List, [], _∷_, map}
+use lib.Ieee.{Float}
+use Rattle.curve.specs.F64.{_⊗_, ratio}
+use Rattle.curve.specs.Curve.{integrateOver, curveOf}
+use Rattle.curve.specs.declared.points.Point.{Point}
+use Rattle.curve.specs.declared.charge_profile.ChargingOutput.{ChargingOutput}
+use Rattle.curve.specs.declared.units.Kw.{Kw}
+use Rattle.curve.specs.declared.units.Kwh.{Kwh}
+use Rattle.curve.specs.declared.units.Seconds.{Seconds}
+use Rattle.engine.specs.declared.site.Limit.the-variants.{AtMost}
+use Rattle.engine.specs.declared.session.Session.{Session}
+use Rattle.engine.specs.declared.session.Outcome.the-variants.{Charged, Reneged, Balked}
+use Rattle.engine.specs.declared.charger_state.Status.{Status}
+use Rattle.engine.specs.declared.charger_state.Status.the-variants.{Charging, Idle}
+use Rattle.engine.specs.declared.charger_state.ChargerState.{ChargerState}
+use Rattle.engine.specs.SiteState.{uncharged}
+use Rattle.engine.specs.ChargerState.{hours}
+use Rattle.engine.specs.Power.{allocate}
+use Rattle.engine.specs.Demand.{Stop}
+use Rattle.files.specs.Read.{readPlan}
+use Rattle.files.specs.Check.{checkPlan}
+use Rattle.files.specs.Call.{stopOf}
+use Rattle.files.specs.declared.answer.Refusal.{Refusal}
+use Rattle.files.specs.declared.answer.Refusal.the-variants.{CannotCharge}
+use Rattle.files.specs.declared.answer.Answer.{Answer}
+use Rattle.files.specs.declared.answer.Answer.the-variants.{Fine, Refused}
+use Rattle.cases.specs.Bay.{kw, kwh, seconds, percent, point, plan, bay, secondCar, atTarget, atOneKw}
+
+-- ---- what a case is, and what it gives
+
+-- the engines by the paper's numbers
+abbrev pub events : ℕ
+events = 0
+
+abbrev pub steps : ℕ
+steps = 1
+
+pub data Case : Type 0 where
+  -- a run by an engine, under an allowance, of a plan's bytes
+  run : ℕ → ℕ → List ℕ → Case
+  -- a battery charged along a profile's points, from a SOC to a SOC, under a power cap
+  charge : Kwh → List Point → Float → Float → Kw → Case
+  -- power allocated to the bay's chargers under a site limit
+  allot : Kw → List ChargerState → Case
+
+pub data Result : Type 0 where
+  -- the plan is fine; units used, ended, sessions
+  stopped : ℕ → Bool → List Session → Result
+  -- the plan is refused
+  refused : Refusal → Result
+  -- duration, energy, peak
+  takes : ChargingOutput → Result
+  -- a power cap for each charger
+  caps : List Kw → Result
+
+abbrev pub ifFine : Answer → Stop → Result
+ifFine Fine s = stopped (s .used) (s .ended) (s .sessions)
+ifFine (Refused x) s = refused x
+
+unfoldable pub result : Case → Result
+result (run engine allowance plan) = ifFine (checkPlan plan) (stopOf (readPlan plan) engine allowance)
+result (charge battery points start target cap) = takes (integrateOver (curveOf points) battery start target cap)
+result (allot limit states) = caps (map (λ (s : ChargerState). s .cap) (allocate (AtMost limit) (λ k. curveOf (bay .points)) states))
+
+infix 68 _gives_
+pub data Worked : Type 0 where
+  _gives_ : Case → Result → Worked
+
+abbrev pub Holds : Worked → Type 0
+Holds (case gives wanted) = result case ≡ wanted
+
+-- ---- the words of the list
+
+-- a run that has ended, and one that its allowance cut, after so many units
+abbrev pub ended : ℕ → List Session → Result
+ended used sessions = stopped used true sessions
+
+abbrev pub cut : ℕ → List Session → Result
+cut used sessions = stopped used false sessions
+
+abbrev pub output : Seconds → Kwh → Kw → ChargingOutput
+output duration energy peak = record { duration = duration; energy = energy; peak = peak }
+
+-- a vehicle's session, by its place from 0: plug-in, unplug, wait, what charging took, idle
+abbrev pub charged : ℕ → ℕ → ℕ → ℕ → ChargingOutput → Seconds → Session
+charged v plugin unplug wait took idle =
+    record {
+      vehicle = v;
+      outcome = Charged;
+      charger = 0;
+      plugin = plugin;
+      unplug = unplug;
+      wait = wait;
+      duration = took .duration;
+      idle = idle;
+      peak = took .peak;
+      energy = took .energy;
+    }
+
+-- by its arrival and the time at which it reneges
+abbrev pub reneged : ℕ → ℕ → ℕ → Session
+reneged v arrival time = uncharged v Reneged (time - arrival)
+
+abbrev pub balked : ℕ → Session
+balked v = uncharged v Balked 0
+
+-- 25 kWh at 50 kW: 1,800 s
+abbrev pub halfHour : ChargingOutput
+halfHour = output (seconds 1800) (kwh 25) (kw 50)
+
+-- the first car of M1 to M5: plug-in 100, unplug 2,020
+abbrev pub firstCar : Session
+firstCar = charged 0 100 2020 0 halfHour (seconds 120)
+
+-- M7: points (0, 100), (0.5, 100), (1, 50)
+abbrev pub tapering : List Point
+tapering = point (percent 0) (kw 100) ∷ point (percent 50) (kw 100) ∷ point (percent 100) (kw 50) ∷ []
+
+-- M8 and M9: a car that asks for 50 kW at a 50 kW charger, with its cap from the round before
+abbrev pub asks50 : Status → Kw → ChargerState
+asks50 status cap =
+    record {
+      status = status;
+      profile = 0;
+      session = 0;
+      soc = percent 25;
+      target = percent 75;
+      battery = kwh 50;
+      rated = kw 50;
+      requested = kw 0;
+      cap = cap;
+      idle = seconds 120;
+      energy = kwh 0;
+      peak = kw 0;
+      vehicle = 0;
+    }
+
+-- M10: half a second, with one round's energy at 50 kW
+abbrev pub oneRound : ChargingOutput
+oneRound = output (record { 0 = ratio 1 2 }) (record { 0 = ratio 50 1 ⊗ hours }) (kw 50)
+
+-- ---- the list
+
+unfoldable pub worked : List Worked
+worked =
+    -- M1 by events: duration 1,800 s, 25 kWh; arrival 100, unplug 2,020
+    run events 10 (plan bay) gives ended 3 (firstCar ∷ []) ∷
+    -- M2 by events, a second car at 200: wait 1,800 reneges at 2,000, handled 5
+    run events 10 (plan (secondCar 1800 10)) gives ended 5 (firstCar ∷ reneged 1 200 2000 ∷ []) ∷
+    -- M3 wait 1,820 reneges at 2,020
+    run events 10 (plan (secondCar 1820 10)) gives ended 5 (firstCar ∷ reneged 1 200 2020 ∷ []) ∷
+    -- M4 wait 1,821 plugs at 2,020, unplugs 3,940, handled 6
+    run events 10 (plan (secondCar 1821 10)) gives ended 6 (firstCar ∷ charged 1 2020 3940 1820 halfHour (seconds 120) ∷ []) ∷
+    -- M5 its queue limit 0: balks, handled 5
+    run events 10 (plan (secondCar 1800 0)) gives ended 5 (firstCar ∷ balked 1 ∷ []) ∷
+    -- M6 allowance 0 uses 0
+    run events 0 (plan bay) gives cut 0 [] ∷
+    run steps 0 (plan bay) gives cut 0 [] ∷
+    -- M7 cap 75, SOC 0.5 to 1: 1,440 s; 25 kWh, 62.5 kW
+    charge (kwh 50) tapering (percent 50) (percent 100) (kw 75) gives takes (output (seconds 1440) (kwh 25) (record { 0 = ratio 125 2 })) ∷
+    -- M8 two 50 kW requests: limit 100 gives caps of 50 each
+    allot (kw 100) (asks50 Charging (kw 25) ∷ asks50 Charging (kw 25) ∷ []) gives caps (kw 50 ∷ kw 50 ∷ []) ∷
+    -- M9 limit 50, the second car Idle, gives caps of 25 each
+    allot (kw 50) (asks50 Charging (kw 50) ∷ asks50 Idle (kw 50) ∷ []) gives caps (kw 25 ∷ kw 25 ∷ []) ∷
+    -- M10 steps: unplug 2, charge duration 0.5, used 3
+    run steps 10 (plan atTarget) gives ended 3 (charged 0 0 2 0 oneRound (record { 0 = ratio 3 2 }) ∷ []) ∷
+    -- M11 by events: unplug 2, duration 0
+    run events 10 (plan atTarget) gives ended 3 (charged 0 0 2 0 (output (seconds 0) (kwh 0) (kw 0)) (record { 0 = ratio 3 2 }) ∷ []) ∷
+    -- M12 battery 168: 604,800 accepted; 169 refused by 12, the vehicle's block 4 and the charger's block 3
+    run events 10 (plan (atOneKw (kwh 168))) gives ended 3 (charged 0 100 605020 0 (output (seconds 604800) (kwh 168) (kw 1)) (seconds 120) ∷ []) ∷
+    run events 10 (plan (atOneKw (kwh 169))) gives refused (CannotCharge 4 3) ∷
+    []

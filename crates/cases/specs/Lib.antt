@@ -1,0 +1,3 @@
+-- The paper's bay worked through.
+pub mod Bay
+pub mod Cases

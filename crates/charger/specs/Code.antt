@@ -1,0 +1,4 @@
+-- The vocabulary of refinement: what the contracts of inner functions cite beside the rules.
+pub mod Profiles
+pub mod Vehicles
+pub mod Queue

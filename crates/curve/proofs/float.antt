@@ -1,0 +1,5 @@
+pub mod Compare
+pub mod Week
+pub mod Limits
+pub mod Exact
+pub mod Ceiling

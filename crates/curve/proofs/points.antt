@@ -1,0 +1,4 @@
+pub mod Rising
+pub mod ByHand
+pub mod ByPlace
+pub mod Rows

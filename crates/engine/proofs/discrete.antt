@@ -1,0 +1,6 @@
+pub mod Stepped
+pub mod EventLaws
+pub mod Busy
+pub mod LastCar
+pub mod EventStates
+pub mod Ready

@@ -1,0 +1,5 @@
+pub mod SameCars
+pub mod Passes
+pub mod Gaps
+pub mod SpinRounds
+pub mod PassTurns

@@ -1,0 +1,10 @@
+pub mod Units
+pub mod Held
+pub mod RunMoves
+pub mod Quiet
+pub mod DueFirst
+pub mod Opened
+pub mod Ends
+pub mod Begins
+pub mod LoopTurn
+pub mod LoopRun

@@ -1,0 +1,71 @@
+-- The start of a run by steps.
+use mathlib.Core.Path.{_≡_, refl, sym, ap, _∙_}
+use mathlib.Core.Logic.{⊎-elim}
+use mathlib.Core.List.{List, [], _∷_, _++_}
+use Prim.Native.Nat.{ℕ, zero, suc, _+_, _≤_, _<_}
+use native.Mathlib.Nat.{eq-or-lt-of-le}
+use native.Mathlib.Omega.{arith}
+use lib.Ieee.{Float}
+use lib.ListN.{length, take, replicate}
+use lib.Seq.{length-take-le}
+use Rattle.charger.specs.declared.vehicle.Vehicle.{Vehicle}
+use Rattle.charger.specs.Lists.{All, none}
+use Rattle.engine.specs.declared.events.Event.{Event}
+use Rattle.engine.specs.declared.site.Simulation.{Simulation}
+use Rattle.engine.specs.Plan.{Plan}
+use Rattle.engine.specs.Events.{arrival, renege, generate}
+use Rattle.engine.specs.ChargerState.{empty}
+use Rattle.engine.specs.Timestep.{steps}
+use Rattle.engine.specs.Code.Bank.{stateAt, bank, Stored}
+use Rattle.engine.specs.Code.Simulation.{Starts}
+use Rattle.engine.specs.Code.Steps.{RoomFor}
+use Rattle.engine.proofs.site.Moves as M
+use Rattle.engine.proofs.site.Laws as L
+use Rattle.engine.proofs.timestep.RunMoves.{lawful}
+use Rattle.engine.proofs.discrete.EventLaws.{all-push}
+
+-- ---- a cleared bank
+
+pub cleared-more : {i : ℕ} {F F′ : List (List Float)} {B B′ : List (List ℕ)} → Stored i empty F B F′ B′ → ((j : ℕ) → j < i → stateAt F B j ≡ empty)
+    → (j : ℕ) → j < i + 1 → stateAt F′ B′ j ≡ empty
+cleared-more {i} w h j l =
+    ⊎-elim
+    (λ (e : j ≡ i). rw e (w .same))
+    (λ (k : j < i). w .other j (λ (e : j ≡ i). omega arith) ∙ h j k)
+    (eq-or-lt-of-le (omega arith))
+
+replicate-snoc : {A : Type 0} (n : ℕ) (x : A) → replicate n x ++ (x ∷ []) ≡ x ∷ replicate n x
+replicate-snoc zero x = refl
+replicate-snoc (suc n) x = rw (replicate-snoc n x)
+
+pub cleared-all : (n : ℕ) (F : List (List Float)) (B : List (List ℕ)) → ((j : ℕ) → j < n → stateAt F B j ≡ empty) → bank n F B ≡ replicate n empty
+cleared-all zero F B h = refl
+cleared-all (suc n) F B h = rw (cleared-all n F B (λ j l. h j (omega arith)), h n (omega arith)) (replicate-snoc n empty)
+
+-- ---- the events at the start: arrivals and reneges of vehicles below n
+
+module _ {P : Event → Type 0} (n : ℕ) (arrivals : (t v : ℕ) → v < n → P (arrival t v)) (reneges : (t v : ℕ) → v < n → P (renege t v)) where
+  all-generate : (v : ℕ) (xs : List Vehicle) (l : List Event) → v + length xs ≤ n → All P l → All P (generate v xs l)
+  all-generate v [] l h k = k
+  all-generate v (x ∷ xs) l h k =
+      all-generate (suc v) xs _ (omega arith) (all-push _ (reneges (x .arrival + x .wait) v (omega arith)) (all-push _ (arrivals (x .arrival) v (omega arith)) k))
+
+-- ---- there is room for everybody
+
+-- a part that is empty has no members
+empty-part : {A : Type 0} (n : ℕ) (l : List A) → n ≤ length l → take n l ≡ [] → n ≡ 0
+empty-part n l h e = sym (length-take-le n l h) ∙ ap length e
+
+pub fit-start : (t : Plan) (r : Simulation) → Starts (t .vehicles) r → length (t .vehicles) ≤ 64 → r .queue .len ≤ length (r .queue .ids) → r .sessions .len ≤ length (r .sessions .all)
+    → RoomFor 0 r
+fit-start t r s few q x =
+    let none-queued = empty-part (r .queue .len) (r .queue .ids) q (s .queue) in
+    let no-session = empty-part (r .sessions .len) (r .sessions .all) x (s .sessions) in
+    let everybody = L.counts t (steps t) (lawful t) M.none in
+    record {
+      sound = s .sound;
+      account = rw (s .pending, none-queued, no-session) (omega arith);
+      kinds = rw (s .pending) (all-generate 64 (λ t v h. refl) (λ t v h. refl) 0 (t .vehicles) [] (omega arith) none);
+      coming = rw (s .pending) (all-generate 64 (λ t v h. h) (λ t v h. h) 0 (t .vehicles) [] (omega arith) none);
+      waits = rw (s .queue) none;
+    }

@@ -1,0 +1,67 @@
+-- Rules. Blocks of sessions, five 96-byte sessions a block, from any place of a file on.
+use Prim.Native.Nat.{ℕ, zero, suc, _+_, _*_, _/_, _%_}
+use mathlib.Core.List.{List, [], _∷_, _++_}
+use lib.Ieee.{Float, binary64, toBits}
+use lib.ListN.{length, getD, drop}
+use Rattle.files.specs.Bytes.{leAt, bytes, fields, pieces}
+use Rattle.files.specs.Blocks.{sealed}
+use Rattle.files.specs.Fields.{f64At}
+use Rattle.files.specs.declared.book_session.BookSession.{BookSession}
+use Rattle.files.specs.BookSession.{noSession}
+
+-- an f64 by its bits
+abbrev bits : Float → ℕ
+bits x = toBits binary64 x
+
+-- a session's 96 bytes: widths and values, from byte 0 on; bytes 14 and 15 are unnamed
+unfoldable pub sessionBytes : BookSession → List ℕ
+sessionBytes x =
+    fields
+    (4 ∷ x .«vehicle_id» ∷ 4 ∷ x .«profile_id» ∷ 4 ∷ x .«charger_id» ∷ 1 ∷ x .connector ∷ 1 ∷ x .outcome ∷ 2 ∷ 0
+    ∷ 8 ∷ x .arrival ∷ 8 ∷ x .plugin ∷ 8 ∷ x .unplug ∷ 8 ∷ x .wait
+    ∷ 8 ∷ bits (x .duration .0) ∷ 8 ∷ bits (x .idle .0) ∷ 8 ∷ bits (x .peak .0) ∷ 8 ∷ bits (x .energy .0)
+    ∷ 8 ∷ bits (x .start) ∷ 8 ∷ bits (x .end) ∷ [])
+
+-- the bytes of the session at the index k, zero past the last one
+unfoldable pub slot : List BookSession → ℕ → List ℕ
+slot xs k = sessionBytes (getD xs k noSession)
+
+-- the block of the sessions 5 j to 5 j + 4, where the first block of sessions is the place-th of its file
+unfoldable pub sessionBlock : ℕ → List BookSession → ℕ → List ℕ
+sessionBlock place xs j = sealed (place + j) (pieces (slot xs) (5 * j) 5 ++ bytes 28 0)
+
+-- all of them
+unfoldable pub sessionBlocks : ℕ → List BookSession → List ℕ
+sessionBlocks place xs = pieces (sessionBlock place xs) 0 ((length xs + 4) / 5)
+
+-- ---- sessions read back
+
+-- where the session at the index k begins in a file whose sessions begin at start
+abbrev pub sessionOffset : ℕ → ℕ → ℕ
+sessionOffset start k = start + 512 * (k / 5) + 96 * (k % 5)
+
+-- the session that b begins with
+unfoldable pub sessionOf : List ℕ → BookSession
+sessionOf b =
+    record {
+      «vehicle_id» = leAt 4 b 0;
+      «profile_id» = leAt 4 b 4;
+      «charger_id» = leAt 4 b 8;
+      connector = leAt 1 b 12;
+      outcome = leAt 1 b 13;
+      arrival = leAt 8 b 16;
+      plugin = leAt 8 b 24;
+      unplug = leAt 8 b 32;
+      wait = leAt 8 b 40;
+      duration = record { 0 = f64At b 48 };
+      idle = record { 0 = f64At b 56 };
+      peak = record { 0 = f64At b 64 };
+      energy = record { 0 = f64At b 72 };
+      start = f64At b 80;
+      end = f64At b 88;
+    }
+
+-- m sessions of such a file, those from the index k on
+unfoldable pub sessionsFrom : List ℕ → ℕ → ℕ → ℕ → List BookSession
+sessionsFrom b start k zero = []
+sessionsFrom b start k (suc m) = sessionOf (drop (sessionOffset start k) b) ∷ sessionsFrom b start (suc k) m

@@ -1,0 +1,3 @@
+-- Laws of the program's output.
+pub mod Text
+pub mod Answered
