@@ -15,8 +15,11 @@ fn main() {
     let name = archive.file_name().and_then(|name| name.to_str()).unwrap_or_default();
     let name = name.strip_prefix("lib").and_then(|name| name.strip_suffix(".a"));
     let (Some(name), true) = (name, archive.is_file()) else {
-        eprintln!("\nSITE_ARCHIVE is {}, which is no libNAME.a.\n", archive.display());
-        std::process::exit(1)
+        println!(
+            "cargo::error=SITE_ARCHIVE is {}, which is no libNAME.a: `rt staticlib calls` makes one",
+            archive.display()
+        );
+        return;
     };
     println!("cargo::rerun-if-changed={}", archive.display());
     println!("cargo::rustc-link-search=native={}", archive.parent().unwrap().display());

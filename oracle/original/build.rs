@@ -53,15 +53,18 @@ fn original_folder() -> PathBuf {
         Err(_) => repository.join("../shared/docs/src"),
     };
     if !folder.join("events.rs").is_file() {
-        let way = "Set ORIGINAL to its src folder (a relative path starts at the repository).";
-        stop(&format!("The Rust original is not in {}.\n{way}", folder.display()));
+        let way = "set ORIGINAL to its src folder (a relative path starts at the repository)";
+        stop(&format!("the Rust original is not in {}: {way}", folder.display()));
     }
     folder
 }
 
+/// Makes the build fail with this message. (A status other than 0 would have cargo print all that was written so far.)
 fn stop(message: &str) -> ! {
-    eprintln!("\n{message}\n");
-    std::process::exit(1)
+    for line in message.lines() {
+        println!("cargo::error={line}");
+    }
+    std::process::exit(0)
 }
 
 /// The one further change that SLIP asks for; without SLIP the slipped copy is the original.

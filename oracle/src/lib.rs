@@ -2,6 +2,7 @@
 #![allow(clippy::duplicate_mod)]
 
 pub mod accounts;
+pub mod arguments;
 pub mod bay;
 pub mod blocks;
 pub mod book;

@@ -1,4 +1,5 @@
 //! The side that is compared with the oracle, and what counts as a difference.
+use crate::arguments::stop;
 use crate::generate::Case;
 use crate::{Numbers, program};
 use std::io::Write;
@@ -83,13 +84,14 @@ fn difference_by_program(path: &PathBuf, case: &Case) -> Option<String> {
 
 /// The difference of the program's output on an input of any length.
 pub fn difference_on_input(path: &PathBuf, input: &[u8]) -> Option<String> {
-    let mut child =
-        Command::new(path).stdin(Stdio::piped()).stdout(Stdio::piped()).spawn().expect("the program starts");
+    let cannot = |error: std::io::Error| -> ! { stop(format!("{} cannot be run: {error}", path.display())) };
+    let started = Command::new(path).stdin(Stdio::piped()).stdout(Stdio::piped()).spawn();
+    let mut child = started.unwrap_or_else(|error| cannot(error));
     let mut stdin = child.stdin.take().unwrap();
     let owned = input.to_vec();
     // A program that stops reading early closes the pipe; its output tells.
     let feeder = std::thread::spawn(move || drop(stdin.write_all(&owned)));
-    let got = child.wait_with_output().expect("the program ends").stdout;
+    let got = child.wait_with_output().unwrap_or_else(|error| cannot(error)).stdout;
     feeder.join().unwrap();
     let (wanted, _) = program::output(input);
     if wanted == got {

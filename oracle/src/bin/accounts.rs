@@ -1,13 +1,15 @@
 //! Tries demand 3's sentences on the oracle's own runs over generated cases.
 use oracle::accounts::{Run, event_by_event, one_run, two_runs};
+use oracle::arguments::Words;
 use oracle::{generate, words};
 use std::collections::BTreeMap;
 use std::time::Instant;
 
 fn main() {
-    let mut numbers = std::env::args().skip(1).map(|word| word.parse::<u64>().expect("accounts CASES SEED"));
-    let cases = numbers.next().unwrap_or(100_000);
-    let seed = numbers.next().unwrap_or(1);
+    let mut words = Words::of("accounts [CASES [SEED]]");
+    let cases = words.number_or("CASES", 100_000);
+    let seed = words.number_or("SEED", 1);
+    words.end();
     let started = Instant::now();
     let mut by_shape: BTreeMap<&str, [u64; 3]> = BTreeMap::new();
     let mut by_number: BTreeMap<u64, u64> = BTreeMap::new();

@@ -1,5 +1,6 @@
 //! Times the original and the product on the same inputs, by call, in one process.
 use oracle::Numbers;
+use oracle::arguments::{Words, stop};
 use oracle::book::LEAST_BOOK;
 use oracle::draft::{Car, Draft, charger, profile};
 use oracle::draw::Draw;
@@ -29,18 +30,30 @@ type Check = fn(&[u8]) -> Numbers;
 type Run = fn(&[u8], u32, u32, &mut [u8]) -> Numbers;
 
 fn main() {
+    let works = named_works();
     println!(
         "The original and {OTHER}: medians of {REPETITIONS} measurements each, in turn; the ratio is the median of the pairs' ratios. Times are processor time. Buffers are not cleared.\n"
     );
     println!("| work | original | other | other / original |");
     println!("|---|---|---|---|");
-    let named = std::env::args().nth(1).unwrap_or_default();
-    for work in works().into_iter().filter(|work| work.name.contains(&named)) {
+    for work in works {
         let times = measure(&work);
         let ratios = times[1].iter().zip(&times[0]).map(|(other, original)| other / original).collect();
         let [original, other] = times.map(median);
         println!("| {} | {} | {} | {:.2} |", work.name, shown(&work, original), shown(&work, other), median(ratios));
     }
+}
+
+/// The works whose names have the word that was given.
+fn named_works() -> Vec<Work> {
+    let mut words = Words::of("bench [PART-OF-A-ROWS-NAME]");
+    let part = words.word().unwrap_or_default();
+    words.end();
+    let works: Vec<Work> = works().into_iter().filter(|work| work.name.contains(&part)).collect();
+    if works.is_empty() {
+        stop(format!("no row's name has \"{part}\" in it; without a word all rows are timed"));
+    }
+    works
 }
 
 fn shown(work: &Work, nanoseconds: f64) -> String {

@@ -1,4 +1,10 @@
 //! Compares product and oracle over cases by seed, and shrinks the first difference.
+//!
+//! By call: the product that SITE_ARCHIVE named at build time, else the copy with the slip that SLIP named.
+//! `--program` compares a program by standard input and output instead.
+//! `--sweep` damages a small plan at every byte in place of drawn cases.
+//! `--trace` names each case on standard error before it runs, for a side that may crash or hang.
+use oracle::arguments::Words;
 use oracle::draw::Draw;
 use oracle::generate::{self, Case};
 use oracle::shrink::shrink;
@@ -9,12 +15,7 @@ use std::path::PathBuf;
 use std::process::ExitCode;
 use std::time::Instant;
 
-const USAGE: &str = "compare [--cases N] [--seed S] [--from INDEX] [--program PATH] [--sweep] [--trace]
-
-By call: the product that SITE_ARCHIVE named at build time, else the copy with the slip that SLIP named.
---program compares a program by standard input and output instead.
---sweep damages a small plan at every byte in place of drawn cases.
---trace names each case on standard error before it runs, for a side that may crash or hang.";
+const USAGE: &str = "compare [--cases N] [--seed S] [--from INDEX] [--program PATH] [--sweep] [--trace]";
 
 struct Options {
     cases: u64,
@@ -25,28 +26,25 @@ struct Options {
     trace: bool,
 }
 
-fn options() -> Option<Options> {
+fn options() -> Options {
     let mut options = Options { cases: 20_000, seed: 1, from: 0, program: None, sweep: false, trace: false };
-    let mut words = std::env::args().skip(1);
-    while let Some(word) = words.next() {
+    let mut words = Words::of(USAGE);
+    while let Some(word) = words.word() {
         match word.as_str() {
-            "--cases" => options.cases = words.next()?.parse().ok()?,
-            "--seed" => options.seed = words.next()?.parse().ok()?,
-            "--from" => options.from = words.next()?.parse().ok()?,
-            "--program" => options.program = Some(words.next()?.into()),
+            "--cases" => options.cases = words.number("N"),
+            "--seed" => options.seed = words.number("S"),
+            "--from" => options.from = words.number("INDEX"),
+            "--program" => options.program = Some(words.needed("PATH").into()),
             "--sweep" => options.sweep = true,
             "--trace" => options.trace = true,
-            _ => return None,
+            _ => words.wrong(format!("{word} is unknown")),
         }
     }
-    Some(options)
+    options
 }
 
 fn main() -> ExitCode {
-    let Some(options) = options() else {
-        eprintln!("{USAGE}");
-        return ExitCode::from(2);
-    };
+    let options = options();
     let started = Instant::now();
     let side = match &options.program {
         Some(path) => Side::Program(path.clone()),
@@ -65,7 +63,8 @@ fn main() -> ExitCode {
     let cases: Box<dyn Iterator<Item = Case>> = match options.sweep {
         true => Box::new(sweep(options.seed)),
         false => {
-            Box::new((options.from..options.from + options.cases).map(|index| generate::case(options.seed, index)))
+            let end = options.from.saturating_add(options.cases);
+            Box::new((options.from..end).map(|index| generate::case(options.seed, index)))
         }
     };
     for (k, case) in cases.enumerate() {

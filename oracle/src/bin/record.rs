@@ -1,5 +1,6 @@
 //! Records the oracle's answers for a replay without Rust. The README describes the form.
 use oracle::accounts::Run;
+use oracle::arguments::{Words, stop};
 use oracle::bay;
 use oracle::draw::Draw;
 use oracle::generate::{self, Case, SHAPES};
@@ -17,12 +18,29 @@ const LARGE: (u64, usize) = (2, MOST_BLOCKS);
 const REFUSED: u64 = 6;
 const REFUSALS: [u64; 11] = [1, 2, 4, 5, 6, 7, 8, 9, 10, 11, 12];
 
-fn main() -> std::io::Result<()> {
-    let mut words: Vec<String> = std::env::args().skip(1).collect();
-    let numbers = words.first().is_some_and(|word| word == "--numbers");
-    words.drain(..usize::from(numbers));
-    let folder = words.first().expect("record [--numbers] FOLDER [SEED]: writes FOLDER/stdin and FOLDER/stdout");
-    let seed = words.get(1).map_or(1, |word| word.parse().expect("a seed is a number"));
+struct Options {
+    numbers: bool,
+    folder: String,
+    seed: u64,
+}
+
+fn options() -> Options {
+    let mut words = Words::of("record [--numbers] FOLDER [SEED]");
+    let mut folder = words.needed("FOLDER");
+    let numbers = folder == "--numbers";
+    if numbers {
+        folder = words.needed("FOLDER");
+    }
+    if folder.starts_with('-') {
+        words.wrong(format!("{folder} is no folder"));
+    }
+    let seed = words.number_or("SEED", 1);
+    words.end();
+    Options { numbers, folder, seed }
+}
+
+fn main() {
+    let Options { numbers, folder, seed } = options();
     let inputs = inputs(seed);
     let mut outputs = Vec::new();
     for input in &inputs {
@@ -34,9 +52,15 @@ fn main() -> std::io::Result<()> {
     }
     let recorded = encode(&inputs);
     assert!(decode(&recorded) == inputs, "the record reads back");
+    write(Path::new(&folder), &recorded, &outputs).unwrap_or_else(|error| stop(format!("{folder}: {error}")));
     println!("{} cases, {} bytes in, {} bytes out", inputs.len(), recorded.len(), outputs.len());
-    std::fs::write(Path::new(folder).join("stdin"), recorded)?;
-    std::fs::write(Path::new(folder).join("stdout"), outputs)
+}
+
+/// Writes the record to its folder, which is made where it is not there.
+fn write(folder: &Path, recorded: &[u8], outputs: &[u8]) -> std::io::Result<()> {
+    std::fs::create_dir_all(folder)?;
+    std::fs::write(folder.join("stdin"), recorded)?;
+    std::fs::write(folder.join("stdout"), outputs)
 }
 
 fn inputs(seed: u64) -> Vec<Vec<u8>> {

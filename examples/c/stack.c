@@ -1,0 +1,67 @@
+/* Measures how much stack the calls take: runs them on a thread whose stack was filled with a pattern, and looks how deep it was written. */
+#define _GNU_SOURCE
+#include <pthread.h>
+#include <stdio.h>
+#include <stdlib.h>
+#include <string.h>
+
+#include "site.h"
+
+enum { STACK = 1 << 20, PATTERN = 0xa5 };
+
+static uint8_t plan[SITE_PLAN_MOST + 1], book[SITE_BOOK_LEAST];
+static size_t length;
+static uint64_t numbers[SITE_NUMBERS];
+static uint8_t *stack, *top;
+
+/* The stack that a call begins on, as near as a caller can tell. */
+static void *check(void *none) {
+    top = __builtin_frame_address(0);
+    site_check(plan, length, numbers);
+    return none;
+}
+
+static void *run(void *allowances) {
+    top = __builtin_frame_address(0);
+    for (const uint32_t *allowance = allowances; *allowance <= SITE_ALLOWANCE_MOST; allowance++)
+        for (uint32_t engine = SITE_EVENTS; engine <= SITE_STEPS; engine++)
+            site_run(plan, length, engine, *allowance, book, sizeof book, numbers);
+    return NULL;
+}
+
+/* The bytes between where the calls began and the deepest byte that was written. */
+static long depth(void *(*calls)(void *), void *with) {
+    pthread_attr_t attributes;
+    pthread_t thread;
+    memset(stack, PATTERN, STACK);
+    pthread_attr_init(&attributes);
+    pthread_attr_setstack(&attributes, stack, STACK);
+    if (pthread_create(&thread, &attributes, calls, with) != 0 || pthread_join(thread, NULL) != 0) {
+        fprintf(stderr, "no thread can be started\n");
+        exit(1);
+    }
+    uint8_t *deepest = stack;
+    while (*deepest == PATTERN)
+        deepest++;
+    return top - deepest;
+}
+
+int main(int count, char **words) {
+    uint32_t allowances[] = {0, 1, 100, 40000, SITE_ALLOWANCE_MOST, SITE_ALLOWANCE_MOST + 1};
+    if (count < 2 || posix_memalign((void **)&stack, 4096, STACK) != 0) {
+        fprintf(stderr, "usage: %s day.plan..\n", words[0]);
+        return 2;
+    }
+    for (int k = 1; k < count; k++) {
+        FILE *file = fopen(words[k], "rb");
+        if (file == NULL) {
+            perror(words[k]);
+            return 1;
+        }
+        length = fread(plan, 1, sizeof plan, file);
+        fclose(file);
+        long checked = depth(check, NULL), ran = depth(run, allowances);
+        printf("%s: site_check took %ld bytes of stack, site_run %ld\n", words[k], checked, ran);
+    }
+    return 0;
+}

@@ -1,0 +1,202 @@
+#!/usr/bin/env python3
+"""Plans from text, and books as text, tables and pictures.
+
+The program target/bin/site reads what `input` writes, and writes what `show` and the others read: a book or a refusal.
+FILE is standard input where it is left out or is -.
+Exit status: 0 done; 1 a file cannot be read, is damaged, or is a refusal; 2 wrong usage.
+"""
+import argparse
+import os
+import struct
+import sys
+
+from sitefiles import book, plan, refusal, tables, text
+from sitefiles.blocks import Damaged
+from sitefiles.picture import picture
+
+
+class Failed(Exception):
+    """What is said on standard error before the tool ends with status 1."""
+
+
+# ---- files
+
+
+def file_bytes(name):
+    if name == "-":
+        return sys.stdin.buffer.read()
+    try:
+        with open(name, "rb") as file:
+            return file.read()
+    except OSError as error:
+        raise Failed(f"{name}: {error.strerror}") from None
+
+
+def spoken(name):
+    return "standard input" if name == "-" else name
+
+
+def read_text(name):
+    try:
+        return text.read_plan(spoken(name), file_bytes(name))
+    except text.Unreadable as faults:
+        raise Failed(f"{faults}\nno plan is written") from None
+
+
+def read_plan(name):
+    """A plan from its description or from its bytes, which no text has: they are full of zero bytes."""
+    if name is None:
+        return None
+    data = file_bytes(name)
+    if b"\0" in data:
+        return plan.from_bytes(name, data)
+    try:
+        return text.read_plan(name, data)
+    except text.Unreadable as faults:
+        raise Failed(str(faults)) from None
+
+
+def read_output(name, of_plan=None):
+    """What the program wrote: a book, or a refusal."""
+    data = file_bytes(name)
+    try:
+        if not data:
+            raise Damaged("it is empty; the program writes a book or a refusal for every input")
+        if not data.startswith(b"BOOK"):
+            return refusal.read(data)
+        read = book.read(data)
+        if of_plan is not None:
+            book.test_against(read, of_plan)
+        return read
+    except Damaged as damage:
+        raise Failed(f"{spoken(name)}: {damage}") from None
+
+
+def read_book(name, of_plan=None):
+    """A book; a refusal is none."""
+    output = read_output(name, of_plan)
+    if isinstance(output, refusal.Refusal):
+        raise Failed(f"{spoken(name)}: " + "\n".join(refusal_lines(output, of_plan)))
+    return output
+
+
+def refusal_lines(output, of_plan):
+    try:
+        return refusal.in_words(output, of_plan)
+    except Damaged as damage:
+        raise Failed(str(damage)) from None
+
+
+def say(line):
+    print(line, file=sys.stderr)
+
+
+def warn(read, of_plan=None):
+    for warning in tables.warnings(read, of_plan):
+        say(f"warning: {warning}")
+
+
+# ---- commands
+
+
+def make_plan(options):
+    sys.stdout.buffer.write(read_text(options.text).data())
+
+
+def make_input(options):
+    data = file_bytes(options.plan)
+    if not data.startswith(b"PLAN"):
+        say(f"warning: {spoken(options.plan)} does not begin with the letters PLAN; sitebook.py plan makes a plan of a description")
+    sys.stdout.buffer.write(struct.pack("<BI", options.engine, options.allowance) + data)
+
+
+def show(options):
+    of_plan = read_plan(options.plan)
+    output = read_output(options.file, of_plan)
+    refused = isinstance(output, refusal.Refusal)
+    print("\n".join(refusal_lines(output, of_plan) if refused else tables.show(output, of_plan)))
+    return 1 if refused else 0
+
+
+def write_csv(options):
+    of_plan = read_plan(options.plan)
+    read = read_book(options.file, of_plan)
+    tables.write_csv(read, sys.stdout)
+    warn(read, of_plan)
+
+
+def write_totals(options):
+    print("\n".join(tables.totals([tables.Named(name, read_book(name)) for name in options.files])))
+
+
+def draw(options):
+    of_plan = read_plan(options.plan)
+    read = read_book(options.file, of_plan)
+    print(picture(read, of_plan))
+    warn(read, of_plan)
+
+
+# ---- the command line
+
+
+def engine(word):
+    return book.ENGINES.index(word) if word in book.ENGINES else number_below(256)(word)
+
+
+def number_below(end):
+    def number(word):
+        if not (word.isascii() and word.isdecimal() and float(word) < end):
+            raise argparse.ArgumentTypeError(f"{word} is no number from 0 to {end - 1}")
+        return int(word)
+
+    return number
+
+
+def parser():
+    whole = argparse.ArgumentParser(prog="sitebook.py", description=__doc__, formatter_class=argparse.RawDescriptionHelpFormatter)
+    commands = whole.add_subparsers(required=True, metavar="COMMAND")
+
+    def command(name, does, help):
+        added = commands.add_parser(name, help=help, description=help)
+        added.set_defaults(does=does)
+        return added
+
+    made = command("plan", make_plan, "write a plan's bytes from its description")
+    made.add_argument("text", metavar="day.txt")
+
+    fed = command("input", make_input, "write what the program reads: engine, allowance and plan")
+    fed.add_argument("engine", metavar="ENGINE", type=engine, help="events or 0: fast, ignores the site limit; steps or 1: obeys it")
+    fed.add_argument("allowance", metavar="ALLOWANCE", type=number_below(2**32), help="units after which the run stops, at most 10000000")
+    fed.add_argument("plan", metavar="day.plan")
+
+    add_book(command("show", show, "show a book as a table, or a refusal in words"))
+    add_book(command("csv", write_csv, "write all fields of all sessions as CSV"))
+    add_book(command("picture", draw, "draw a book's day as SVG"))
+
+    summed = command("totals", write_totals, "sum up books")
+    summed.add_argument("files", metavar="FILE", nargs="+")
+    return whole
+
+
+def add_book(command):
+    command.add_argument("--plan", metavar="PLAN", help="the plan of the run, as description or as bytes: for warnings, places and names")
+    command.add_argument("file", metavar="FILE", nargs="?", default="-")
+
+
+def main(words):
+    options = parser().parse_args(words)
+    try:
+        status = options.does(options) or 0
+        sys.stdout.flush()
+        return status
+    except Failed as failure:
+        say(failure)
+        return 1
+    except BrokenPipeError:
+        # The reader has gone. Python would complain once more when it flushes at the end.
+        os.dup2(os.open(os.devnull, os.O_WRONLY), sys.stdout.fileno())
+        return 1
+
+
+if __name__ == "__main__":
+    sys.exit(main(sys.argv[1:]))

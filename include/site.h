@@ -1,0 +1,84 @@
+/* The joined site engine for C and C++: check a plan, run a plan.
+ *
+ * `rt staticlib calls` proves the functions and writes target/staticlib/libcalls.a, for x86-64 Linux. It needs nothing
+ * but memcpy and memset, so no further library is named:
+ *
+ *     cc main.c -Iinclude target/staticlib/libcalls.a
+ *
+ * docs/FORMATS.md describes the plan and the book byte by byte, and the refusals.
+ *
+ * What holds of both calls:
+ * - Every plan gets an answer, also one that is damaged or no plan at all. Nothing needs to be tested before a call.
+ * - A call is a function of its arguments alone. It allocates nothing, keeps no pointer and has no state, so calls may run
+ *   on several threads at once, each with its own `book` and `numbers`; a plan may be shared.
+ * - No pointer may be null, also where its length is 0. The buffers of one call may not overlap. `numbers` is aligned as
+ *   uint64_t; `plan` and `book` may begin anywhere.
+ * - site_run takes up to 178,000 bytes of stack and site_check up to 28,000, as examples/c/stack.c measures them. Give
+ *   a thread that calls them 256 KiB or more: the usual 8 MiB is plenty, the 128 KiB of a thread under musl are too few.
+ * - Floats are computed as C starts them: rounded to nearest, subnormal numbers kept. A program that was linked with
+ *   -ffast-math changes that.
+ */
+#ifndef SITE_H
+#define SITE_H
+
+#include <stddef.h>
+#include <stdint.h>
+
+#ifdef __cplusplus
+extern "C" {
+#endif
+
+/* Lengths in bytes: a longer plan is refused by 4, a shorter book by 3. */
+#define SITE_PLAN_MOST 57856
+#define SITE_BOOK_LEAST 7168
+
+/* A larger allowance is refused by 2. */
+#define SITE_ALLOWANCE_MOST 10000000
+
+/* Engines; any other number is refused by 1. */
+enum site_engine {
+    SITE_EVENTS = 0, /* from event to event: fast, ignores the site limit */
+    SITE_STEPS = 1   /* second by second: obeys the site limit */
+};
+
+/* Where the eleven numbers of an answer stand. */
+enum site_number {
+    SITE_NUMBER,         /* 0: fine; 1 to 12: refused, and all numbers after the two places are 0 */
+    SITE_PLACE,          /* the block that a refusal names, the first being 1; 0 is none */
+    SITE_OTHER_PLACE,    /* for 12 the charger's block beside the vehicle's */
+    SITE_USED,           /* units used: events handled, or rounds of one second */
+    SITE_ENDED,          /* 1: the run has ended; 0: its allowance is used up */
+    SITE_YET_TO_ARRIVE,  /* vehicles whose arrival was not handled */
+    SITE_QUEUED,         /* vehicles waiting when the run stopped */
+    SITE_OPEN,           /* sessions in the book that are still open: only of a run by steps that has not ended */
+    SITE_CHARGED,        /* sessions in the book: charged */
+    SITE_RENEGED,        /* gave up waiting */
+    SITE_BALKED,         /* drove on */
+    SITE_NUMBERS         /* how many there are: 11 */
+};
+
+/* Checks a plan without running it.
+ *
+ * plan, plan_length    the plan's bytes; read only
+ * numbers              all eleven are written: refusals 4 to 12 with their places, or zeros for a plan that would be run
+ */
+void site_check(const uint8_t *plan, size_t plan_length, uint64_t numbers[SITE_NUMBERS]);
+
+/* Checks a plan, runs it, and writes its book.
+ *
+ * plan, plan_length    the plan's bytes; read only
+ * engine               SITE_EVENTS or SITE_STEPS
+ * allowance            units after which the run stops, at most SITE_ALLOWANCE_MOST: events to handle, or seconds to go
+ *                      through. Under a larger allowance every closed session stays where and as it is in the book
+ * book, book_length    at least SITE_BOOK_LEAST bytes. A book of n sessions takes 512 * (1 + (n + 4) / 5) bytes, n being
+ *                      the sum of SITE_OPEN to SITE_BALKED; bytes behind it stay as they were. A refusal writes nothing
+ * numbers              all eleven are written
+ */
+void site_run(const uint8_t *plan, size_t plan_length, uint32_t engine, uint32_t allowance, uint8_t *book, size_t book_length,
+              uint64_t numbers[SITE_NUMBERS]);
+
+#ifdef __cplusplus
+}
+#endif
+
+#endif
