@@ -126,15 +126,14 @@ pub fn reached_rising(curve: &[[f64; 2]], soc: f64) -> usize
     reached_from(curve, passed, soc)
 }
 
-// The same, at once where `near` of the points, and at most a few more, are at or below `soc`. A first search, where none is known
-// to be, goes over the curve as points.
+// The same, at once where `near` of the points, and at most a few more, are at or below `soc`.
 pub fn reached_near(curve: &[[f64; 2]], near: usize, soc: f64) -> usize
     requires { ⌜ Rises le (Rows.points (now curve)) ⌝ }
     ensures bounded { λ r. ⌜ r ≤ length (now (curve .entry)) ⌝ }
     ensures found { λ r. ⌜ r ≡ Curve.reached soc (Rows.points (now (curve .entry))) ⌝ }
 {
     if near == 0 {
-        return reached_by_points(curve, soc);
+        return reached_rising(curve, soc);
     }
     if curve.len() < near {
         return reached_rising(curve, soc);

@@ -11,6 +11,7 @@ use crate::power::scaling;
 use crate::site::Limit;
 use crate::thin::advanced;
 use charger::charge_profile_list::place_on_curve;
+use charger::charge_profile_list::reached_on_curve;
 use curve::float::same;
 use curve::units::Kw;
 ghost use mathlib.Core.Path.{_≡_};
@@ -95,7 +96,7 @@ fn rounds(start: ChargerState, curves: &[[f64; 2]], lens: &[u8], limit: Limit, c
     ensures { λ r. ⌜ spun (r .state ∷ []) (r .spun) ≡ spin limit (curveAt (now (curves .entry)) (now (lens .entry))) 0 count (start ∷ []) ⌝ }
 {
     let mut s = start;
-    let mut segment = 0;
+    let mut segment = reached_on_curve(curves, lens, s.profile, s.soc);
     let mut k = 0;
     while k < count {
         let place = place_on_curve(curves, lens, s.profile, segment, s.soc);

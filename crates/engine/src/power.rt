@@ -10,10 +10,11 @@ use crate::thin::advanced;
 use charger::charge_profile_list::place_on_curve;
 use curve::units::Kw;
 ghost use mathlib.Core.Path.{_≡_};
-ghost use mathlib.Core.Bool.{false};
+ghost use mathlib.Core.Bool.{false, cond};
 ghost use mathlib.Core.List.{map};
 ghost use Prim.Native.Nat.{_+_, _≤_, _<_};
-ghost use Rattle.curve.specs.F64.{ratio};
+ghost use Rattle.curve.specs.F64.{_⊕_, ratio};
+ghost use Rattle.engine.specs.ChargerState.{isFree};
 ghost use Rattle.charger.specs.Code.Profiles.{curveAt};
 ghost use Rattle.engine.specs.Code.Bank.{bank, Room, Rising, Cars, Requested, advanced, Advanced, spun};
 ghost use Rattle.engine.specs.Power as Spec;
@@ -40,15 +41,14 @@ pub fn cap_of(s: ChargerState, factor: f64) -> Kw
 }
 
 // The sum with what a car draws. Idle cars count too.
-fn added(sum: f64, s: ChargerState) -> f64
-    ensures { λ r. ⌜ r ≡ Spec.added sum s ⌝ }
+fn added(sum: f64, status: Status, draw: f64) -> f64
+    ensures { λ r. ⌜ r ≡ cond (isFree status) sum (sum ⊕ draw) ⌝ }
 {
-    let status = s.status;
     match status {
         Status::Free => sum,
-        Status::Charging => sum + s.draw(),
-        Status::Idle => sum + s.draw(),
-        Status::Finished => sum + s.draw(),
+        Status::Charging => sum + draw,
+        Status::Idle => sum + draw,
+        Status::Finished => sum + draw,
     }
 }
 
@@ -78,7 +78,7 @@ fn request_at(
     let power = place.power;
     let asked = s.with_request(power);
     store(floats, bytes, i, asked);
-    added(sum, asked)
+    added(sum, status, asked.draw())
 }
 
 // The first pass: every car's request, and the sum of what all draw. `busy` has the places of the cars among the first n.

@@ -9,14 +9,14 @@ use borrow.Author.Needs.{needs}
 use Rattle.curve.proofs.points.reached_near.Statement.{statement}
 use Rattle.curve.proofs.points.reached_near.Tie as tie
 
-reached-by-points-requires : tie.Need-reached-by-points-requires
-reached-by-points-requires c κs = search needs
+reached-rising-requires : tie.Need-reached-rising-requires
+reached-rising-requires c κs = search needs
 
 returns : tie.Need-returns
 returns c = search needs
 
-reached-rising-requires : tie.Need-reached-rising-requires
-reached-rising-requires c κs = search needs
+reached-rising-requires-2 : tie.Need-reached-rising-requires-2
+reached-rising-requires-2 c κs = search needs
 
 returns-2 : tie.Need-returns-2
 returns-2 c = search needs
@@ -33,8 +33,8 @@ index-1-if3 c = search needs
 index-2-if3 : tie.Need-index-2-if3
 index-2-if3 c = search needs
 
-reached-rising-requires-2 : tie.Need-reached-rising-requires-2
-reached-rising-requires-2 c κs = search needs
+reached-rising-requires-3 : tie.Need-reached-rising-requires-3
+reached-rising-requires-3 c κs = search needs
 
 returns-3 : tie.Need-returns-3
 returns-3 c = search needs
@@ -54,15 +54,15 @@ pub reached-near-spec : {M : Type 1} → statement M
 reached-near-spec =
     tie.close
     (tie.spec
-    reached-by-points-requires
-    returns
     reached-rising-requires
+    returns
+    reached-rising-requires-2
     returns-2
     sub-if3
     mul-if3
     index-1-if3
     index-2-if3
-    reached-rising-requires-2
+    reached-rising-requires-3
     returns-3
     reached-from-requires
     returns-4)

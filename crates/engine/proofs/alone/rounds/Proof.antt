@@ -24,13 +24,16 @@ Inv-loop curves lens limit count s₀ segment₀ k₀ s segment k =
 abbrev μ-loop : tie.MeasureT-loop
 μ-loop curves lens limit count s₀ segment₀ k₀ s segment k = count - k
 
+reached-on-curve-requires : tie.Need-reached-on-curve-requires Inv-loop μ-loop
+reached-on-curve-requires c κs = search needs
+
 loop-holds : tie.Need-loop-holds Inv-loop μ-loop
 loop-holds c =
-    let all : c .before .args .count - 0 ≡ c .before .args .count = omega arith in
-    (omega arith, c .before .pre .0, rw all, λ first. absurd (true≢false (sym first)))
+    let all : c .before .before .args .count - 0 ≡ c .before .before .args .count = omega arith in
+    (omega arith, c .before .before .pre .0, rw all, λ first. absurd (true≢false (sym first)))
 
 place-on-curve-requires : tie.Need-place-on-curve-requires Inv-loop μ-loop
-place-on-curve-requires c κs = c .before .before .before .pre .1 .rises _
+place-on-curve-requires c κs = c .before .before .before .before .pre .1 .rises _
 
 next-requires : tie.Need-next-requires Inv-loop μ-loop
 next-requires c κs = c .before .before .before .loop .inv .3
@@ -61,7 +64,7 @@ loop-again c =
     let at-place = at-next .before .before in
     let at-loop = at-place .before .before in
     let inv = at-loop .loop .inv in
-    let a = at-loop .before .before .args in (
+    let a = at-loop .before .before .before .args in (
       omega arith,
       rw (at-next .next .ensures) (stays-busy (a .limit) _ (at-loop .loop .s) (inv .1)),
       sym
@@ -80,6 +83,7 @@ rounds-spec =
     (tie.spec
     Inv-loop
     μ-loop
+    reached-on-curve-requires
     loop-holds
     place-on-curve-requires
     next-requires

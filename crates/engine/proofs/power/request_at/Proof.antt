@@ -1,7 +1,7 @@
 -- `engine::power::request_at` meets its contract.
 use mathlib.Core.Path.{sym, _∙_}
 use denote.Ref.{now}
-use Rattle.engine.specs.Power.{request}
+use Rattle.engine.specs.Power.{request, added}
 use Rattle.engine.proofs.power.PassTurns.{no-request, requested}
 use borrow.Author.Needs.{needs}
 use Rattle.engine.proofs.power.request_at.Statement.{statement}
@@ -47,6 +47,9 @@ with-request-requires c κs = search needs
 store-requires : tie.Need-store-requires
 store-requires c κs = c .before .before .before .before .before .before .before .before .before .before .before .before .pre .0
 
+draw-requires : tie.Need-draw-requires
+draw-requires c κs = search needs
+
 added-requires : tie.Need-added-requires
 added-requires c κs = search needs
 
@@ -57,9 +60,9 @@ same-length-4 : tie.Need-same-length-4
 same-length-4 c = search needs
 
 returns-2 : tie.Need-returns-2
-unfolding request
+unfolding request added
 returns-2 c =
-    let at-store = c .before .before .before in
+    let at-store = c .before .before .before .before in
     let at-request = at-store .before .before .before in
     let at-place = at-request .before .before in
     let at-test = at-place .before .before in
@@ -68,7 +71,7 @@ returns-2 c =
     let F = now (a .floats) in
     let B = now (a .bytes) in
     let asked = rw (at-place .place-on-curve .ensures, at-load .load .ensures) at (at-request .with-request .ensures) in
-    rw (c .added .ensures, asked)
+    rw (c .added .ensures, c .before .draw .ensures, asked, at-load .load .ensures)
     (requested (a .i) F B _ (a .sum) (rw (at-load .load .ensures) at (sym (at-test .before .is-free .ensures) ∙ at-test .if1 .left)) (rw asked at (at-store .store .ensures)))
 
 pub request-at-spec : {M : Type 1} → statement M
@@ -87,6 +90,7 @@ request-at-spec =
     element-write-segments
     with-request-requires
     store-requires
+    draw-requires
     added-requires
     same-length-3
     same-length-4
