@@ -7,6 +7,7 @@ use Rattle.curve.specs.Curve.{powerAt}
 use Rattle.curve.specs.declared.points.Point.{Point}
 use Rattle.curve.specs.declared.units.Kw.{Kw}
 use Rattle.engine.specs.Plan.{ProfilePlace}
+use Rattle.engine.specs.declared.charger_state.Status.{Status}
 use Rattle.engine.specs.declared.charger_state.ChargerState.{ChargerState}
 use Rattle.engine.specs.declared.site.Limit.{Limit}
 use Rattle.engine.specs.declared.site.Limit.the-variants.{Unlimited, AtMost}
@@ -21,9 +22,13 @@ unfoldable pub request : (ProfilePlace → List Point) → ChargerState → Char
 unfolding powerAt
 request curve s = withRequest (powerAt (curve (s .profile)) (s .soc)) s
 
+-- which cars count in the sum: all that stand at a charger, Idle ones too
+abbrev pub addedBy : Float → Status → Float → Float
+addedBy sum status power = cond (isFree status) sum (sum ⊕ power)
+
 -- the sum of what all cars draw, in charger order, added to `sum`
 unfoldable pub added : Float → ChargerState → Float
-added sum s = cond (isFree (s .status)) sum (sum ⊕ draw s)
+added sum s = addedBy sum (s .status) (draw s)
 
 abbrev pub total : Float → List ChargerState → Float
 total sum [] = sum
@@ -40,7 +45,7 @@ unfoldable pub capOf : Float → ChargerState → Kw
 unfolding ratio
 capOf factor s = cond (lt factor (ratio 1 1)) (record { 0 = draw s ⊗ factor }) (s .rated)
 
--- THE POWER RULE: a cap for each charger, from the limit and the states with their requests
+-- the power rule: a cap for each charger, from the limit and the states with their requests
 unfoldable pub caps : Limit → List ChargerState → List Kw
 unfolding scaling added capOf
 caps limit ss = map (capOf (scaling limit (total (ratio 0 1) ss))) ss

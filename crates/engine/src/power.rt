@@ -10,11 +10,10 @@ use crate::thin::advanced;
 use charger::charge_profile_list::place_on_curve;
 use curve::units::Kw;
 ghost use mathlib.Core.Path.{_≡_};
-ghost use mathlib.Core.Bool.{false, cond};
+ghost use mathlib.Core.Bool.{false};
 ghost use mathlib.Core.List.{map};
 ghost use Prim.Native.Nat.{_+_, _≤_, _<_};
-ghost use Rattle.curve.specs.F64.{_⊕_, ratio};
-ghost use Rattle.engine.specs.ChargerState.{isFree};
+ghost use Rattle.curve.specs.F64.{ratio};
 ghost use Rattle.charger.specs.Code.Profiles.{curveAt};
 ghost use Rattle.engine.specs.Code.Bank.{bank, Room, Rising, Cars, Requested, advanced, Advanced, spun};
 ghost use Rattle.engine.specs.Power as Spec;
@@ -42,7 +41,7 @@ pub fn cap_of(s: ChargerState, factor: f64) -> Kw
 
 // The sum with what a car draws. Idle cars count too.
 fn added(sum: f64, status: Status, draw: f64) -> f64
-    ensures { λ r. ⌜ r ≡ cond (isFree status) sum (sum ⊕ draw) ⌝ }
+    ensures { λ r. ⌜ r ≡ Spec.addedBy sum status draw ⌝ }
 {
     match status {
         Status::Free => sum,
