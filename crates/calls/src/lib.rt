@@ -1,12 +1,12 @@
 // The calls for C and Rust. A slice is a pointer and a length; the eleven numbers go to an array of the caller's.
-use files::answer::check_numbers;
-use files::answer::run_numbers;
 use files::call::check;
 use files::call::run;
+use plan::answer::check_numbers;
+use plan::answer::run_numbers;
 ghost use mathlib.Core.Path.{_≡_};
 ghost use lib.ListN.{length};
 ghost use Rattle.files.specs.Check.{checkPlan, AllSealed};
-ghost use Rattle.files.specs.Answer.{checkNumbers, numbers as Answer·numbers};
+ghost use Rattle.plan.specs.Answer.{checkNumbers, numbers as Answer·numbers};
 ghost use Rattle.files.specs.Call.{answerOf, bookLeft};
 ghost use Rattle.files.specs.Demand.{ReadsBack, UnitsUsed, FreeKnown, NoFreeFits, OneSpot, OneById, AddUp, CountsOfBook, ClosedStay, ExactWaits, Handled, EventsEnd, StepsEnd};
 

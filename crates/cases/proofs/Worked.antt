@@ -12,23 +12,23 @@ use Rattle.engine.specs.Plan.{Plan, chargerAt, fits, rated, output, stay}
 use Rattle.engine.specs.Events.{before}
 use Rattle.engine.specs.SiteState.{balks, uncharged, startCharging}
 use Rattle.engine.specs.Discrete as D
-use Rattle.engine.specs.ChargerState.{empty, afterIdling}
-use Rattle.engine.specs.ChargerState as C
-use Rattle.engine.specs.Power.{allocate}
+use Rattle.power.specs.ChargerState.{empty, afterIdling}
+use Rattle.power.specs.ChargerState as C
+use Rattle.power.specs.Power.{allocate}
 use Rattle.engine.specs.Timestep.{openSession, plugged, finalized, round}
 use Rattle.engine.specs.Demand.{Stop}
-use Rattle.files.specs.Blocks.{passes, block}
-use Rattle.files.specs.Search.{firstIndex, every, each}
-use Rattle.files.specs.Fields.{bytesIn, connectorsOk, pointCount, pointOk}
-use Rattle.files.specs.Places.{kindAt}
-use Rattle.files.specs.Plan.{idAt, withId, newSoc, firstRefusal, lengthOk, checkBlocks}
+use Rattle.plan.specs.Blocks.{passes, block}
+use Rattle.plan.specs.Search.{firstIndex, every, each}
+use Rattle.plan.specs.Fields.{bytesIn, connectorsOk, pointCount, pointOk}
+use Rattle.plan.specs.Places.{kindAt}
+use Rattle.plan.specs.Plan.{idAt, withId, newSoc, firstRefusal, lengthOk, checkBlocks}
 use Rattle.files.specs.Read.{readPlan, pointsOf, curveOfProfile, batteryOf, chargersOf, connectorRows, profileIndex, vehicleOf, vehicleIn, vehiclesOf, limitOf}
 use Rattle.files.specs.Pairs.{failingCharger, failingPair}
 use Rattle.files.specs.Check.{checkPlan}
 use Rattle.files.specs.Call.{stopOf}
-use Rattle.files.specs.declared.answer.Answer.{Answer}
-use Rattle.files.specs.declared.answer.Answer.the-variants.{Fine, Refused}
-use Rattle.files.specs.declared.answer.Refusal.the-variants.{CannotCharge}
+use Rattle.plan.specs.declared.answer.Answer.{Answer}
+use Rattle.plan.specs.declared.answer.Answer.the-variants.{Fine, Refused}
+use Rattle.plan.specs.declared.answer.Refusal.the-variants.{CannotCharge}
 use Rattle.cases.specs.Bay.{kwh, Bay, plan, bay, secondCar, atTarget, atOneKw}
 use Rattle.cases.specs.Cases.{events, steps, run, Result, ifFine, result, Worked, _gives_, Holds, worked}
 

@@ -8,8 +8,8 @@ use Rattle.curve.specs.declared.points.Point.{Point}
 use Rattle.curve.specs.declared.units.Kw.{Kw}
 use Rattle.curve.specs.declared.units.Kwh.{Kwh}
 use Rattle.curve.specs.declared.units.Seconds.{Seconds}
-use Rattle.files.specs.Bytes.{leAt, bytes}
-use Rattle.files.specs.Blocks.{words, checkOf}
+use Rattle.plan.specs.Bytes.{leAt, bytes}
+use Rattle.plan.specs.Blocks.{words, checkOf}
 
 -- ---- numbers with their units
 

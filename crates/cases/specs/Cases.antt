@@ -11,23 +11,23 @@ use Rattle.curve.specs.declared.charge_profile.ChargingOutput.{ChargingOutput}
 use Rattle.curve.specs.declared.units.Kw.{Kw}
 use Rattle.curve.specs.declared.units.Kwh.{Kwh}
 use Rattle.curve.specs.declared.units.Seconds.{Seconds}
-use Rattle.engine.specs.declared.site.Limit.the-variants.{AtMost}
+use Rattle.power.specs.declared.power.Limit.the-variants.{AtMost}
 use Rattle.engine.specs.declared.session.Session.{Session}
 use Rattle.engine.specs.declared.session.Outcome.the-variants.{Charged, Reneged, Balked}
-use Rattle.engine.specs.declared.charger_state.Status.{Status}
-use Rattle.engine.specs.declared.charger_state.Status.the-variants.{Charging, Idle}
-use Rattle.engine.specs.declared.charger_state.ChargerState.{ChargerState}
+use Rattle.power.specs.declared.charger_state.Status.{Status}
+use Rattle.power.specs.declared.charger_state.Status.the-variants.{Charging, Idle}
+use Rattle.power.specs.declared.charger_state.ChargerState.{ChargerState}
 use Rattle.engine.specs.SiteState.{uncharged}
-use Rattle.engine.specs.ChargerState.{hours}
-use Rattle.engine.specs.Power.{allocate}
+use Rattle.power.specs.ChargerState.{hours}
+use Rattle.power.specs.Power.{allocate}
 use Rattle.engine.specs.Demand.{Stop}
 use Rattle.files.specs.Read.{readPlan}
 use Rattle.files.specs.Check.{checkPlan}
 use Rattle.files.specs.Call.{stopOf}
-use Rattle.files.specs.declared.answer.Refusal.{Refusal}
-use Rattle.files.specs.declared.answer.Refusal.the-variants.{CannotCharge}
-use Rattle.files.specs.declared.answer.Answer.{Answer}
-use Rattle.files.specs.declared.answer.Answer.the-variants.{Fine, Refused}
+use Rattle.plan.specs.declared.answer.Refusal.{Refusal}
+use Rattle.plan.specs.declared.answer.Refusal.the-variants.{CannotCharge}
+use Rattle.plan.specs.declared.answer.Answer.{Answer}
+use Rattle.plan.specs.declared.answer.Answer.the-variants.{Fine, Refused}
 use Rattle.cases.specs.Bay.{kw, kwh, seconds, percent, point, plan, bay, secondCar, atTarget, atOneKw}
 
 -- ---- what a case is, and what it gives

@@ -1,6 +1,3 @@
 -- The vocabulary of refinement: what the contracts of inner functions cite beside the rules.
-pub mod Bank
-pub mod Rounds
-pub mod Alone
 pub mod Simulation
 pub mod Steps

@@ -3,8 +3,6 @@ pub mod Plan
 pub mod Events
 pub mod SiteState
 pub mod Discrete
-pub mod ChargerState
-pub mod Power
 pub mod Timestep
 pub mod Demand
 pub mod Code

@@ -13,7 +13,8 @@ use Rattle.charger.specs.declared.charger.Charger.{Charger}
 use Rattle.charger.specs.declared.vehicle.Vehicle.{Vehicle}
 use Rattle.charger.specs.Vehicle.{compatible, vehicleAt}
 use Rattle.charger.specs.Charger.{ratedPower}
-use Rattle.engine.specs.declared.site.Limit.{Limit}
+use Rattle.power.specs.declared.power.Limit.{Limit}
+use Rattle.power.specs.Power.{ProfilePlace}
 
 -- whole seconds from the start of the day
 abbrev pub Time : Type 0
@@ -25,9 +26,6 @@ VehiclePlace = ℕ
 
 abbrev pub ChargerPlace : Type 0
 ChargerPlace = ℕ
-
-abbrev pub ProfilePlace : Type 0
-ProfilePlace = ℕ
 
 -- `curve` and `battery` go by profile; `connectors` has a row for each charger, which says for each code whether it has that connector
 pub record Plan : Type 0 where

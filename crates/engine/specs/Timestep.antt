@@ -1,5 +1,5 @@
 -- Rules. The run by steps, as document 01 has it: a round is the events due, the power, the progress, the freed chargers.
-use mathlib.Core.Bool.{Bool, true, cond, _&&_}
+use mathlib.Core.Bool.{Bool, cond, _&&_}
 use mathlib.Core.List.{List, [], _∷_}
 use Prim.Native.Nat.{ℕ, zero, suc, _+_, _-_}
 use lib.Dec.{leb}
@@ -7,15 +7,18 @@ use lib.ListN.{getD, set}
 use lib.Ieee.{binary64, ofInt}
 use lib.IntN.{pos}
 use Rattle.curve.specs.F64.{_⊖_, ratio}
+use Rattle.curve.specs.declared.units.Kw.{Kw}
+use Rattle.curve.specs.declared.units.Kwh.{Kwh}
+use Rattle.charger.specs.declared.vehicle.Vehicle.{Vehicle}
 use Rattle.engine.specs.declared.events.Event.{Event}
 use Rattle.engine.specs.declared.session.Session.{Session}
 use Rattle.engine.specs.declared.session.Outcome.the-variants.{Open, Charged}
 use Rattle.engine.specs.Plan.{Time, VehiclePlace, ChargerPlace, Plan, vehicle, rated}
 use Rattle.engine.specs.SiteState.{Engine, SiteState, isEmpty, uncharged, initial, popped, release}
-use Rattle.engine.specs.declared.charger_state.Status.the-variants.{Charging}
-use Rattle.engine.specs.declared.charger_state.ChargerState.{ChargerState}
-use Rattle.engine.specs.ChargerState.{isFree, isFinished, empty}
-use Rattle.engine.specs.Power.{charge}
+use Rattle.power.specs.declared.charger_state.Status.the-variants.{Charging}
+use Rattle.power.specs.declared.charger_state.ChargerState.{ChargerState}
+use Rattle.power.specs.ChargerState.{isFree, isFinished, empty, allFree}
+use Rattle.power.specs.Power.{charge}
 
 pub record State : Type 0 where
   pub site : SiteState ChargerState
@@ -51,57 +54,51 @@ abbrev pub finished : ChargerPlace → List ChargerState → List ChargerPlace
 finished c [] = []
 finished c (s ∷ ss) = cond (isFinished (s .status)) (c ∷ finished (suc c) ss) (finished (suc c) ss)
 
-abbrev pub allFree : List ChargerState → Bool
-allFree [] = true
-allFree (s ∷ ss) = isFree (s .status) && allFree ss
+-- the session of a car that was plugged in
+unfoldable pub openSession : Vehicle → Time → VehiclePlace → ChargerPlace → Session
+unfolding ratio
+openSession x now v c =
+    record {
+      vehicle = v;
+      outcome = Open;
+      charger = c;
+      plugin = now;
+      unplug = 0;
+      wait = now - x .arrival;
+      duration = record { 0 = ratio 0 1 };
+      idle = x .idle;
+      peak = record { 0 = ratio 0 1 };
+      energy = record { 0 = ratio 0 1 };
+    }
+
+-- and the charger's state then: the car with its battery, the rated power of the two, the place of its session
+unfoldable pub plugged : Vehicle → Kwh → Kw → VehiclePlace → ℕ → ChargerState
+unfolding ratio
+plugged x battery power v index =
+    record {
+      status = Charging;
+      vehicle = v;
+      profile = x .profile;
+      session = index;
+      soc = x .start;
+      target = x .target;
+      battery = battery;
+      rated = power;
+      requested = record { 0 = ratio 0 1 };
+      cap = power;
+      idle = x .idle;
+      energy = record { 0 = ratio 0 1 };
+      peak = record { 0 = ratio 0 1 };
+    }
 
 module _ (p : Plan) where
-  -- the session of a car that was plugged in
-  unfoldable pub openSession : Time → VehiclePlace → ChargerPlace → Session
-  unfolding ratio
-  openSession now v c =
-      let x = vehicle p v in
-      record {
-        vehicle = v;
-        outcome = Open;
-        charger = c;
-        plugin = now;
-        unplug = 0;
-        wait = now - x .arrival;
-        duration = record { 0 = ratio 0 1 };
-        idle = x .idle;
-        peak = record { 0 = ratio 0 1 };
-        energy = record { 0 = ratio 0 1 };
-      }
-
-  -- and the charger's state then
-  unfoldable pub plugged : Time → VehiclePlace → ChargerPlace → ℕ → ChargerState
-  unfolding ratio
-  plugged now v c index =
-      let x = vehicle p v in
-      record {
-        status = Charging;
-        vehicle = v;
-        profile = x .profile;
-        session = index;
-        soc = x .start;
-        target = x .target;
-        battery = p .battery (x .profile);
-        rated = rated p v c;
-        requested = record { 0 = ratio 0 1 };
-        cap = rated p v c;
-        idle = x .idle;
-        energy = record { 0 = ratio 0 1 };
-        peak = record { 0 = ratio 0 1 };
-      }
-
   abbrev pub steps : Engine ChargerState
   steps =
       record {
         empty = empty;
         isFree = λ s. isFree (s .status);
-        session = openSession;
-        occupant = plugged;
+        session = λ now v c. openSession (vehicle p v) now v c;
+        occupant = λ now v c index. plugged (vehicle p v) (p .battery (vehicle p v .profile)) (rated p v c) v index;
         pend = λ now v c es. es;
       }
 

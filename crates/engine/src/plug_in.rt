@@ -1,11 +1,4 @@
 // Cars come and go by steps (simulation/timestep.rs): the events due, plug-ins, closed sessions, freed chargers.
-use crate::bank::clear;
-use crate::bank::load;
-use crate::bank::store;
-use crate::charger_state::ChargerState;
-use crate::charger_state::Status;
-use crate::charger_state::is_finished;
-use crate::charger_state::is_free;
 use crate::events::Event;
 use crate::events::EventType;
 use crate::session::Outcome;
@@ -25,6 +18,13 @@ use charger::vehicle::Vehicle;
 use curve::units::Kw;
 use curve::units::Kwh;
 use curve::units::Seconds;
+use power::bank::clear;
+use power::bank::load;
+use power::bank::store;
+use power::charger_state::ChargerState;
+use power::charger_state::Status;
+use power::charger_state::is_finished;
+use power::charger_state::is_free;
 ghost use mathlib.Core.Path.{_≡_};
 ghost use mathlib.Core.Bool.{false};
 ghost use mathlib.Core.List.{List};
@@ -32,12 +32,11 @@ ghost use lib.Ieee.{Float};
 ghost use Prim.Native.Nat.{ℕ, _+_, _-_, _≤_, _<_};
 ghost use lib.ListN.{getD};
 ghost use Rattle.charger.specs.Lists.{tick};
-ghost use Rattle.engine.specs.Plan.{Plan, vehicle, rated};
 ghost use Rattle.engine.specs.SiteState.{startCharging, handle, release};
 ghost use Rattle.engine.specs.declared.events.EventType.the-variants.{Arrival};
-ghost use Rattle.engine.specs.ChargerState.{isFinished};
+ghost use Rattle.power.specs.ChargerState.{isFinished};
 ghost use Rattle.engine.specs.Demand.{isArrival, isUnplug};
-ghost use Rattle.engine.specs.Code.Bank.{vacantAt, stateAt, bank, Room};
+ghost use Rattle.power.specs.Code.Bank.{vacantAt, stateAt, bank, Room};
 ghost use Rattle.engine.specs.Code.Simulation.{pending, planOf, siteState, Sound};
 ghost use Rattle.engine.specs.Timestep.{steps, due, finalized, closedAt, closed, withClosed, releaseFinished};
 ghost use Rattle.engine.specs.Timestep as Spec;
@@ -53,7 +52,7 @@ fn narrow(place: usize) -> u8
 
 // The session of a car that plugs in.
 fn started(v: usize, c: usize, time: u64, car: Vehicle) -> Session
-    ensures { λ r. ⌜ ((p : Plan) → car ≡ vehicle p v → r ≡ Spec.openSession p time v c) ⌝ }
+    ensures { λ r. ⌜ r ≡ Spec.openSession car time v c ⌝ }
 {
     let idle = car.idle;
     Session {
@@ -73,7 +72,7 @@ fn started(v: usize, c: usize, time: u64, car: Vehicle) -> Session
 // The state of its charger.
 fn plugged(v: usize, car: Vehicle, battery: Kwh, power: Kw, index: usize) -> ChargerState
     requires { ⌜ (v < 256) × (car .profile < 256) × (index < 256) ⌝ }
-    ensures { λ r. ⌜ ((t : Plan) (time c : ℕ) → car ≡ vehicle t v → battery ≡ t .battery (car .profile) → power ≡ rated t v c → r ≡ Spec.plugged t time v c index) ⌝ }
+    ensures { λ r. ⌜ r ≡ Spec.plugged car battery power v index ⌝ }
 {
     let idle = car.idle;
     ChargerState {

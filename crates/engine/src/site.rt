@@ -19,6 +19,7 @@ use curve::units::Amperes;
 use curve::units::Kw;
 use curve::units::Kwh;
 use curve::units::Volts;
+use power::power::Limit;
 ghost use mathlib.Core.Path.{_≡_};
 ghost use mathlib.Core.Bool.{_&&_};
 ghost use mathlib.Core.List.{List};
@@ -37,12 +38,6 @@ ghost use Rattle.charger.specs.Code.Vehicles.{listed};
 ghost use Rattle.engine.specs.Plan.{chargerAt, rowAt, rated};
 ghost use Rattle.engine.specs.SiteState.{below, balks, turned, withdrawn};
 ghost use Rattle.engine.specs.Code.Simulation.{batteryAt, planOf, takes, InTime, Starts, poppedFirst, requeued, Booked, writes, Answers, Changed};
-
-// The most that all chargers may draw together.
-pub enum Limit {
-    Unlimited,
-    AtMost(Kw),
-}
 
 // What the engines read of a plan, but for its connectors and curves: the first `count` of `chargers`, and the battery of each profile.
 pub struct Site {

@@ -1,12 +1,12 @@
 // The step engine's loop (simulation/timestep.rs). A round is the events due, the power, the progress, the freed chargers.
-use crate::bank::clear;
-use crate::bank::load;
-use crate::charger_state::is_free;
 use crate::plug_in::free_finished;
 use crate::plug_in::handle_due;
-use crate::rounds::charge_until;
 use crate::site::Simulation;
 use crate::site::Site;
+use power::bank::clear;
+use power::bank::load;
+use power::charger_state::is_free;
+use power::rounds::charge_until;
 ghost use mathlib.Core.Path.{_≡_};
 ghost use mathlib.Core.Bool.{false, _&&_};
 ghost use Prim.Native.Nat.{_+_, _-_, _≤_, _<_};
@@ -15,10 +15,10 @@ ghost use Rattle.charger.specs.Lists.{All};
 ghost use Rattle.charger.specs.Code.Queue.{waiting};
 ghost use Rattle.charger.specs.Code.Vehicles.{listed};
 ghost use Rattle.engine.specs.SiteState.{isEmpty};
-ghost use Rattle.engine.specs.ChargerState.{empty};
-ghost use Rattle.engine.specs.Code.Bank.{bank, Room, Rising};
+ghost use Rattle.power.specs.ChargerState.{empty, allFree};
+ghost use Rattle.power.specs.Code.Bank.{bank, Room, Rising};
 ghost use Rattle.engine.specs.Code.Simulation.{pending, planOf, Sound, InTime};
-ghost use Rattle.engine.specs.Timestep.{allFree, ended, run};
+ghost use Rattle.engine.specs.Timestep.{ended, run};
 ghost use Rattle.engine.specs.Code.Steps.{RoomFor, SiteWithin, isDue, nextTime, stepState, GoesOn, RoundsDone, RunDone};
 
 fn all_free(floats: &[[f64; 9]], bytes: &[[u8; 4]], n: usize) -> bool

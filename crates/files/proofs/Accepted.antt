@@ -10,25 +10,25 @@ use lib.ListN.{length, getD, take, drop, length-take, length-drop, List·getD-eq
 use lib.Seq.{length-take-le, getD-take, getD-drop}
 use Rattle.charger.specs.Lists.{All}
 use Rattle.engine.specs.Code.Simulation.{InTime}
-use Rattle.files.specs.Bytes.{leAt}
-use Rattle.files.specs.Blocks.{sealed, block}
-use Rattle.files.specs.Search.{firstIndex, holds}
-use Rattle.files.specs.Fields.{headerTests, profileTests, chargerTests, vehicleTests}
-use Rattle.files.specs.Places.{profileCount, chargerCount, vehicleCount, kindAt, profileBlock, chargerBlock, vehicleBlock}
+use Rattle.plan.specs.Bytes.{leAt}
+use Rattle.plan.specs.Blocks.{sealed, block}
+use Rattle.plan.specs.Search.{firstIndex, holds}
+use Rattle.plan.specs.Fields.{headerTests, profileTests, chargerTests, vehicleTests}
+use Rattle.plan.specs.Places.{profileCount, chargerCount, vehicleCount, kindAt, profileBlock, chargerBlock, vehicleBlock}
 use Rattle.files.specs.Code.Reading.{Counted}
-use Rattle.files.specs.Plan.{withId, lengthOk, countTests, fieldTests, broken, rules, firstRefusal, checkBlocks}
+use Rattle.plan.specs.Plan.{withId, lengthOk, countTests, fieldTests, broken, rules, firstRefusal, checkBlocks}
 use Rattle.files.specs.Read.{profileIndex, vehicleOf, vehicleIn, vehiclesOf}
-use Rattle.files.specs.declared.answer.Rule.{Rule}
-use Rattle.files.specs.declared.answer.Rule.the-variants.{Length}
-use Rattle.files.specs.declared.places.Kind.the-variants.{Profile, Charger, Vehicle as VehicleKind}
-use Rattle.files.specs.declared.answer.Refusal.{Refusal}
-use Rattle.files.specs.declared.answer.Refusal.the-variants.{Broken}
-use Rattle.files.specs.declared.answer.Answer.{Answer}
-use Rattle.files.specs.declared.answer.Answer.the-variants.{Fine, Refused}
+use Rattle.plan.specs.declared.answer.Rule.{Rule}
+use Rattle.plan.specs.declared.answer.Rule.the-variants.{Length}
+use Rattle.plan.specs.declared.places.Kind.the-variants.{Profile, Charger, Vehicle as VehicleKind}
+use Rattle.plan.specs.declared.answer.Refusal.{Refusal}
+use Rattle.plan.specs.declared.answer.Refusal.the-variants.{Broken}
+use Rattle.plan.specs.declared.answer.Answer.{Answer}
+use Rattle.plan.specs.declared.answer.Answer.the-variants.{Fine, Refused}
 use Rattle.files.proofs.read.Laws.{with-id-from, with-id-to}
-use Rattle.files.proofs.BlockLaws.{block-read, passes-sealed}
+use Rattle.plan.proofs.BlockLaws.{block-read, passes-sealed}
 use Rattle.charger.proofs.Lists.{and-true}
-use Rattle.files.proofs.SearchLaws.{holds-at, first-missed, all-each}
+use Rattle.plan.proofs.SearchLaws.{holds-at, first-missed, all-each}
 
 -- ---- no rule refuses a block
 

@@ -25,19 +25,19 @@ use Rattle.engine.proofs.site.Laws.{once-below, spots-run}
 use Rattle.engine.proofs.site.Places.{length-below}
 use Rattle.engine.proofs.discrete.EventLaws as E
 use Rattle.engine.proofs.timestep.RunMoves as R
-use Rattle.files.specs.Search.{each}
-use Rattle.files.specs.Places.{profileCount, chargerCount, vehicleCount}
-use Rattle.files.specs.Plan.{idAt, withId, checkBlocks}
+use Rattle.plan.specs.Search.{each}
+use Rattle.plan.specs.Places.{profileCount, chargerCount, vehicleCount}
+use Rattle.plan.specs.Plan.{idAt, withId, checkBlocks}
 use Rattle.files.specs.Read.{readPlan, vehicleIn, vehiclesOf, connectorRows}
 use Rattle.files.specs.BookSession.{vehicleNumber, entry, bookSessions, hasId, noSession}
 use Rattle.files.specs.Book.{bookBytes, written, sessionCount, bookOffset, sessionAt, outcomeAt, outcomesOf, sessionsIn}
 use Rattle.files.specs.SessionBlocks.{slot, sessionBytes, sessionOf, sessionsFrom}
 use Rattle.files.specs.Call.{stopOf}
-use Rattle.files.specs.declared.answer.Answer.the-variants.{Fine}
+use Rattle.plan.specs.declared.answer.Answer.the-variants.{Fine}
 use Rattle.files.specs.declared.book_session.BookSession.{BookSession}
-use Rattle.files.proofs.SearchLaws.{first-missed, length-each, each-at}
-use Rattle.files.proofs.BlockLaws.{block-read}
-use Rattle.files.proofs.ByteLaws.{Begins, leAt-drop}
+use Rattle.plan.proofs.SearchLaws.{first-missed, length-each, each-at}
+use Rattle.plan.proofs.BlockLaws.{block-read}
+use Rattle.plan.proofs.ByteLaws.{Begins, leAt-drop}
 use Rattle.files.proofs.session_blocks.Laws.{length-slot}
 use Rattle.files.proofs.ReadBack.{book-session-at, count-written}
 use Rattle.files.proofs.Accepted.{counted, vehicle-rule, kind-vehicle}

@@ -16,11 +16,11 @@ use Rattle.files.specs.Check.{checkPlan}
 use Rattle.files.specs.Book.{written}
 use Rattle.files.specs.Call.{stopOf, totals, ifFine, answerOf, bookOf, bookAfter}
 use Rattle.files.specs.Demand.{OfRun, ReadsBack, UnitsUsed, FreeKnown, NoFreeFits, OneSpot, OneById, AddUp, CountsOfBook, ClosedStay, ExactWaits, Handled, EventsEnd, StepsEnd}
-use Rattle.files.specs.declared.answer.Answer.{Answer}
-use Rattle.files.specs.declared.answer.Answer.the-variants.{Fine, Refused}
-use Rattle.files.specs.declared.answer.Totals.{Totals}
-use Rattle.files.specs.declared.answer.RunAnswer.{RunAnswer}
-use Rattle.files.specs.declared.answer.RunAnswer.the-variants.{EngineAbove, AllowanceAbove, BookUnder, PlanRefused, Stopped}
+use Rattle.plan.specs.declared.answer.Answer.{Answer}
+use Rattle.plan.specs.declared.answer.Answer.the-variants.{Fine, Refused}
+use Rattle.plan.specs.declared.answer.Totals.{Totals}
+use Rattle.plan.specs.declared.answer.RunAnswer.{RunAnswer}
+use Rattle.plan.specs.declared.answer.RunAnswer.the-variants.{EngineAbove, AllowanceAbove, BookUnder, PlanRefused, Stopped}
 use Rattle.files.proofs.PairLaws.{plan-fine}
 use Rattle.files.proofs.BookDemand.{vehicle-count, outcomes-of-run, one-by-id, few-sessions, closed-stays}
 

@@ -1,7 +1,4 @@
 -- Laws of the definitions, stated once.
-pub mod SearchLaws
-pub mod ByteLaws
-pub mod BlockLaws
 pub mod Accepted
 pub mod Within
 pub mod PairLaws

@@ -12,19 +12,19 @@ use Rattle.charger.specs.Code.Profiles.{curveAt}
 use Rattle.engine.specs.Plan.{Plan}
 use Rattle.engine.specs.Code.Simulation.{planOf}
 use Rattle.engine.specs.declared.site.Site.{Site}
-use Rattle.files.specs.Search.{firstIndex}
-use Rattle.files.specs.Places.{chargerCount, vehicleCount, chargerBlock}
+use Rattle.plan.specs.Search.{firstIndex}
+use Rattle.plan.specs.Places.{chargerCount, vehicleCount, chargerBlock}
 use Rattle.files.specs.Code.Reading.{Counted, SiteRead}
 use Rattle.files.specs.Read.{curveOfProfile, chargerOf, chargersOf, connectorRows, vehicleIn, vehiclesOf, readPlan}
 use Rattle.files.specs.Pairs.{failsAt, failingCharger, failsSomewhere, failingPair}
 use Rattle.files.specs.declared.pairs.FailingPair.the-variants.{Nothing, Pair}
-use Rattle.files.proofs.SearchLaws.{first-holds, length-each}
-use Rattle.files.specs.Plan.{checkBlocks}
+use Rattle.plan.proofs.SearchLaws.{first-holds, length-each}
+use Rattle.plan.specs.Plan.{checkBlocks}
 use Rattle.files.specs.Check.{pairAnswer, thenPairs, checkPlan, AllSealed}
 use Rattle.files.specs.declared.pairs.FailingPair.{FailingPair}
-use Rattle.files.specs.declared.answer.Answer.{Answer}
+use Rattle.plan.specs.declared.answer.Answer.{Answer}
 use Rattle.files.proofs.Accepted.{sealed-block}
-use Rattle.files.specs.declared.answer.Answer.the-variants.{Fine, Refused}
+use Rattle.plan.specs.declared.answer.Answer.the-variants.{Fine, Refused}
 
 -- ---- the pair that is named
 

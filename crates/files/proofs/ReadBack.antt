@@ -6,14 +6,14 @@ use Prim.Native.Nat.{ℕ, zero, suc, _+_, _*_, _/_, _^_, _≤_, _<_}
 use native.Mathlib.Omega.{arith}
 use lib.ListN.{length, take, drop, length-append}
 use lib.Seq.{take-at}
-use Rattle.files.specs.Bytes.{leAt, bytes, fields}
-use Rattle.files.specs.Blocks.{sealed, passes, block}
+use Rattle.plan.specs.Bytes.{leAt, bytes, fields}
+use Rattle.plan.specs.Blocks.{sealed, passes, block}
 use Rattle.files.specs.Code.Writing.{FitBelow}
 use Rattle.files.specs.SessionBlocks.{slot, sessionBlock, sessionBlocks, sessionsFrom}
 use Rattle.files.specs.Book.{headerBlock, bookBytes, sessionCount, bookOffset, sessionsIn, ReadBack, written}
 use Rattle.files.specs.declared.book_session.BookSession.{BookSession}
-use Rattle.files.proofs.ByteLaws.{read-back, next-place, Begins}
-use Rattle.files.proofs.BlockLaws.{sealed-passes, length-sealed}
+use Rattle.plan.proofs.ByteLaws.{read-back, next-place, Begins}
+use Rattle.plan.proofs.BlockLaws.{sealed-passes, length-sealed}
 use Rattle.files.proofs.session_blocks.Laws.{length-session-block, length-session-blocks, session-block-passes, block-at, session-at, sessions-back}
 
 pub header-length : (count engine ended used : ℕ) → length (headerBlock count engine ended used) ≡ 512

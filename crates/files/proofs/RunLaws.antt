@@ -27,28 +27,28 @@ use Rattle.engine.specs.SiteState.{isEmpty}
 use Rattle.engine.specs.Code.Simulation.{pending, booked, model, planOf, InTime, Sound}
 use Rattle.engine.specs.Discrete as Discrete
 use Rattle.engine.specs.Timestep as Timestep
-use Rattle.engine.specs.Code.Bank.{Rising}
+use Rattle.power.specs.Code.Bank.{Rising}
 use Rattle.engine.specs.Code.Steps.{RunDone}
 use Rattle.engine.specs.Demand.{byEvents, bySteps}
 use Rattle.files.specs.Totals.{counted}
 use Rattle.files.specs.Code.Reading.{Loaded, Admitted}
 use Rattle.files.specs.Read.{readPlan, pointsOf, curveOfProfile}
-use Rattle.files.specs.Places.{profileBlock, profileCount}
+use Rattle.plan.specs.Places.{profileBlock, profileCount}
 use Rattle.files.specs.BookSession.{bookSessions}
 use Rattle.files.specs.Code.Writing.{Writable}
 use Rattle.files.specs.Book.{ReadBack, bookBytes}
 use Rattle.files.specs.Call.{stopOf, totals, ifFine, answerOf, bookOf}
 use Rattle.files.specs.Code.Running.{Shows, Runnable}
-use Rattle.files.specs.Plan.{checkBlocks}
+use Rattle.plan.specs.Plan.{checkBlocks}
 use Rattle.files.specs.Pairs.{failingPair}
 use Rattle.files.specs.Check.{pairAnswer, thenPairs, checkPlan}
-use Rattle.files.specs.declared.answer.Answer.{Answer}
-use Rattle.files.specs.declared.answer.RunAnswer.the-variants.{EngineAbove, AllowanceAbove, BookUnder, Stopped}
+use Rattle.plan.specs.declared.answer.Answer.{Answer}
+use Rattle.plan.specs.declared.answer.RunAnswer.the-variants.{EngineAbove, AllowanceAbove, BookUnder, Stopped}
 use Rattle.files.proofs.Accepted.{in-time, profiles-named}
 use Rattle.files.proofs.Within.{points-within}
 use Rattle.files.proofs.PairLaws.{site-read}
 use Rattle.files.specs.declared.call.Ran.{Ran}
-use Rattle.files.specs.declared.answer.Totals.{Totals}
+use Rattle.plan.specs.declared.answer.Totals.{Totals}
 
 -- the queue's head has reached its tail just where no event is pending
 none-pending : (q : EventQueue) → length (q .all) ≡ 192 → q .tail ≤ 192 → leb (q .tail) (q .head) ≡ isEmpty (pending q)

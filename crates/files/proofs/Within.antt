@@ -15,17 +15,17 @@ use Rattle.curve.proofs.float.Limits.{from-bits, each-held}
 use Rattle.charger.specs.Lists.{All}
 use Rattle.charger.specs.declared.charger.Charger.{Charger}
 use Rattle.charger.specs.declared.vehicle.Vehicle.{Vehicle}
-use Rattle.engine.specs.declared.site.Limit.the-variants.{Unlimited, AtMost}
-use Rattle.files.specs.Bytes.{leAt}
-use Rattle.files.specs.Blocks.{block}
-use Rattle.files.specs.Fields.{pointCount, pointOk, zeros}
-use Rattle.files.specs.Places.{profileCount, chargerCount, vehicleCount, profileBlock, chargerBlock, vehicleBlock}
-use Rattle.files.specs.Plan.{checkBlocks}
+use Rattle.power.specs.declared.power.Limit.the-variants.{Unlimited, AtMost}
+use Rattle.plan.specs.Bytes.{leAt}
+use Rattle.plan.specs.Blocks.{block}
+use Rattle.plan.specs.Fields.{pointCount, pointOk, zeros}
+use Rattle.plan.specs.Places.{profileCount, chargerCount, vehicleCount, profileBlock, chargerBlock, vehicleBlock}
+use Rattle.plan.specs.Plan.{checkBlocks}
 use Rattle.files.specs.Read.{pointAt, pointsOf, batteryOf, chargerOf, chargersOf, vehicleOf, vehicleIn, vehiclesOf, limitOf}
-use Rattle.files.specs.declared.answer.Answer.the-variants.{Fine}
+use Rattle.plan.specs.declared.answer.Answer.the-variants.{Fine}
 use Rattle.charger.proofs.Lists.{and-true}
-use Rattle.files.proofs.SearchLaws.{every-at, length-each, each-at, all-each}
-use Rattle.files.proofs.BlockLaws.{block-read}
+use Rattle.plan.proofs.SearchLaws.{every-at, length-each, each-at, all-each}
+use Rattle.plan.proofs.BlockLaws.{block-read}
 use Rattle.files.proofs.Accepted.{vehicle-tests, charger-tests, profile-tests, header-tests}
 
 pub record VehicleWithin (x : Vehicle) : Type 0 where

@@ -4,9 +4,9 @@ use mathlib.Core.Path.{_≡_}
 use mathlib.Core.Bool.{true}
 use mathlib.Core.List.{List, [], _∷_, _++_}
 use lib.ListN.{length, take, drop}
-use Rattle.files.specs.Bytes.{leAt, fields}
-use Rattle.files.specs.Blocks.{sealed, passes, block}
-use Rattle.files.specs.Search.{each}
+use Rattle.plan.specs.Bytes.{leAt, fields}
+use Rattle.plan.specs.Blocks.{sealed, passes, block}
+use Rattle.plan.specs.Search.{each}
 use Rattle.files.specs.declared.book_session.BookSession.{BookSession}
 use Rattle.files.specs.SessionBlocks.{sessionBlocks, sessionOffset, sessionsFrom}
 

@@ -14,8 +14,8 @@ use Rattle.engine.specs.Demand.{outcomeNumber}
 use Rattle.engine.specs.declared.session.Outcome.{Outcome}
 use Rattle.engine.specs.declared.session.Outcome.the-variants.{Open, Charged, Reneged, Balked}
 use Rattle.engine.specs.declared.session.Session.{Session}
-use Rattle.files.specs.Bytes.{leAt}
-use Rattle.files.specs.Places.{chargerCount, vehicleCount, chargerBlock, vehicleBlock}
+use Rattle.plan.specs.Bytes.{leAt}
+use Rattle.plan.specs.Places.{chargerCount, vehicleCount, chargerBlock, vehicleBlock}
 use Rattle.files.specs.Read.{connectorRows, vehiclesOf}
 use Rattle.files.specs.declared.book_session.BookSession.{BookSession}
 

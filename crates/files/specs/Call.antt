@@ -11,12 +11,12 @@ use Rattle.files.specs.Read.{readPlan}
 use Rattle.files.specs.Check.{checkPlan}
 use Rattle.files.specs.BookSession.{bookSessions}
 use Rattle.files.specs.Book.{bookBytes, written}
-use Rattle.files.specs.declared.answer.Answer.{Answer}
-use Rattle.files.specs.declared.answer.Answer.the-variants.{Fine, Refused}
+use Rattle.plan.specs.declared.answer.Answer.{Answer}
+use Rattle.plan.specs.declared.answer.Answer.the-variants.{Fine, Refused}
 use Rattle.files.specs.Totals.{counted}
-use Rattle.files.specs.declared.answer.Totals.{Totals}
-use Rattle.files.specs.declared.answer.RunAnswer.{RunAnswer}
-use Rattle.files.specs.declared.answer.RunAnswer.the-variants.{EngineAbove, AllowanceAbove, BookUnder, PlanRefused, Stopped}
+use Rattle.plan.specs.declared.answer.Totals.{Totals}
+use Rattle.plan.specs.declared.answer.RunAnswer.{RunAnswer}
+use Rattle.plan.specs.declared.answer.RunAnswer.the-variants.{EngineAbove, AllowanceAbove, BookUnder, PlanRefused, Stopped}
 
 -- engine 0 events or 1 steps
 abbrev pub stopOf : Plan → ℕ → ℕ → Stop

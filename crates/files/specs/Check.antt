@@ -3,17 +3,17 @@ use mathlib.Core.Path.{_≡_}
 use Prim.Native.Nat.{ℕ, _+_, _*_, _<_}
 use mathlib.Core.List.{List}
 use lib.ListN.{length, take}
-use Rattle.files.specs.Blocks.{sealed, block}
-use Rattle.files.specs.Places.{placeOf}
-use Rattle.files.specs.Plan.{checkBlocks}
+use Rattle.plan.specs.Blocks.{sealed, block}
+use Rattle.plan.specs.Places.{placeOf}
+use Rattle.plan.specs.Plan.{checkBlocks}
 use Rattle.files.specs.Read.{readPlan}
 use Rattle.files.specs.Pairs.{failingPair}
 use Rattle.files.specs.declared.pairs.FailingPair.{FailingPair}
 use Rattle.files.specs.declared.pairs.FailingPair.the-variants.{Nothing, Pair}
-use Rattle.files.specs.declared.answer.Refusal.the-variants.{CannotCharge}
-use Rattle.files.specs.declared.answer.Answer.{Answer}
-use Rattle.files.specs.declared.answer.Answer.the-variants.{Fine, Refused}
-use Rattle.files.specs.declared.places.Kind.the-variants.{Charger, Vehicle}
+use Rattle.plan.specs.declared.answer.Refusal.the-variants.{CannotCharge}
+use Rattle.plan.specs.declared.answer.Answer.{Answer}
+use Rattle.plan.specs.declared.answer.Answer.the-variants.{Fine, Refused}
+use Rattle.plan.specs.declared.places.Kind.the-variants.{Charger, Vehicle}
 
 -- 12: a pair that fails is named by its blocks
 abbrev pub pairAnswer : List ℕ → FailingPair → Answer

@@ -7,14 +7,14 @@ use lib.ListN.{length}
 use Rattle.charger.specs.Lists.{tick, count}
 use Rattle.engine.specs.Demand.{Stop, arrives}
 use Rattle.engine.specs.Demand as E
-use Rattle.files.specs.Places.{vehicleCount}
+use Rattle.plan.specs.Places.{vehicleCount}
 use Rattle.files.specs.Read.{readPlan}
 use Rattle.files.specs.BookSession.{vehicleNumber, bookSessions, hasId}
 use Rattle.files.specs.Book.{sessionCount, outcomeAt, outcomesOf, sessionAt, sessionsIn, ReadBack}
 use Rattle.files.specs.Call.{stopOf, bookLeft}
-use Rattle.files.specs.declared.answer.Totals.{Totals}
-use Rattle.files.specs.declared.answer.RunAnswer.{RunAnswer}
-use Rattle.files.specs.declared.answer.RunAnswer.the-variants.{EngineAbove, AllowanceAbove, BookUnder, PlanRefused, Stopped}
+use Rattle.plan.specs.declared.answer.Totals.{Totals}
+use Rattle.plan.specs.declared.answer.RunAnswer.{RunAnswer}
+use Rattle.plan.specs.declared.answer.RunAnswer.the-variants.{EngineAbove, AllowanceAbove, BookUnder, PlanRefused, Stopped}
 
 -- what is said of a run that was not refused
 abbrev pub OfRun : (Totals → Type 0) → RunAnswer → Type 0

@@ -13,7 +13,7 @@ use Rattle.charger.specs.Vehicle.{compatible}
 use Rattle.charger.specs.declared.charger.Charger.{Charger}
 use Rattle.charger.specs.declared.vehicle.Vehicle.{Vehicle}
 use Rattle.engine.specs.Plan.{Plan, chargerAt, rowAt, vehicle}
-use Rattle.files.specs.Search.{firstIndex}
+use Rattle.plan.specs.Search.{firstIndex}
 use Rattle.files.specs.declared.pairs.FailingPair.{FailingPair}
 use Rattle.files.specs.declared.pairs.FailingPair.the-variants.{Nothing, Pair}
 

@@ -12,14 +12,14 @@ use Rattle.charger.specs.Connector.{namedConnectors, codesOf, rowOf}
 use Rattle.charger.specs.declared.charger.Charger.{Charger}
 use Rattle.charger.specs.declared.vehicle.Vehicle.{Vehicle}
 use Rattle.engine.specs.Plan.{Plan}
-use Rattle.engine.specs.declared.site.Limit.{Limit}
-use Rattle.engine.specs.declared.site.Limit.the-variants.{Unlimited, AtMost}
-use Rattle.files.specs.Bytes.{leAt}
-use Rattle.files.specs.Search.{each}
-use Rattle.files.specs.Fields.{f64At, pointCount}
-use Rattle.files.specs.Places.{profileCount, chargerCount, vehicleCount, startOf, profileBlock, chargerBlock, vehicleBlock}
-use Rattle.files.specs.Plan.{withId}
-use Rattle.files.specs.declared.places.Kind.the-variants.{Profile as ProfileKind, Charger as ChargerKind}
+use Rattle.power.specs.declared.power.Limit.{Limit}
+use Rattle.power.specs.declared.power.Limit.the-variants.{Unlimited, AtMost}
+use Rattle.plan.specs.Bytes.{leAt}
+use Rattle.plan.specs.Search.{each}
+use Rattle.plan.specs.Fields.{f64At, pointCount}
+use Rattle.plan.specs.Places.{profileCount, chargerCount, vehicleCount, startOf, profileBlock, chargerBlock, vehicleBlock}
+use Rattle.plan.specs.Plan.{withId}
+use Rattle.plan.specs.declared.places.Kind.the-variants.{Profile as ProfileKind, Charger as ChargerKind}
 
 -- ---- profiles
 

@@ -3,9 +3,9 @@ use Prim.Native.Nat.{ℕ, zero, suc, _+_, _*_, _/_, _%_}
 use mathlib.Core.List.{List, [], _∷_, _++_}
 use lib.Ieee.{Float, binary64, toBits}
 use lib.ListN.{length, getD, drop}
-use Rattle.files.specs.Bytes.{leAt, bytes, fields, pieces}
-use Rattle.files.specs.Blocks.{sealed}
-use Rattle.files.specs.Fields.{f64At}
+use Rattle.plan.specs.Bytes.{leAt, bytes, fields, pieces}
+use Rattle.plan.specs.Blocks.{sealed}
+use Rattle.plan.specs.Fields.{f64At}
 use Rattle.files.specs.declared.book_session.BookSession.{BookSession}
 use Rattle.files.specs.BookSession.{noSession}
 

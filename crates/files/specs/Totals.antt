@@ -6,7 +6,7 @@ use lib.ListN.{length}
 use Rattle.engine.specs.declared.events.Event.{Event}
 use Rattle.engine.specs.declared.session.Session.{Session}
 use Rattle.engine.specs.Demand.{yetToArrive, sessionsWith}
-use Rattle.files.specs.declared.answer.Totals.{Totals}
+use Rattle.plan.specs.declared.answer.Totals.{Totals}
 
 -- yet to arrive and queued count vehicles; open, charged, reneged and balked count the sessions of outcome 0, 1, 2 and 3
 abbrev pub counted : ℕ → Bool → List Event → List ℕ → List Session → Totals

@@ -1,11 +1,11 @@
 // The book: a header block and then five sessions a block, in the order pushed.
-use crate::blocks::seal;
 use crate::book_session::BookSession;
 use crate::book_session::entries;
-use crate::bytes::put_fields;
 use crate::session_blocks::put_session_blocks;
 use charger::vehicle_list::VehicleList;
 use engine::session::Sessions;
+use plan::blocks::seal;
+use plan::bytes::put_fields;
 ghost use mathlib.Core.Path.{_≡_};
 ghost use Prim.Native.Nat.{_≤_};
 ghost use lib.ListN.{length, take};

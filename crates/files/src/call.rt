@@ -1,21 +1,21 @@
 // The two calls: check a plan, and run it by either engine under an allowance.
-use crate::answer::Answer;
-use crate::answer::RunAnswer;
-use crate::answer::Totals;
-use crate::answer::flag;
 use crate::book::write_book;
 use crate::check::check_plan;
 use crate::check::read_plan;
-use crate::plan::check_blocks;
 use crate::totals::count_up;
 use engine::discrete;
 use engine::session::Sessions;
 use engine::site::Site;
 use engine::timestep;
+use plan::answer::Answer;
+use plan::answer::RunAnswer;
+use plan::answer::Totals;
+use plan::answer::flag;
+use plan::plan::check_blocks;
 ghost use mathlib.Core.Path.{_≡_};
 ghost use Prim.Native.Nat.{_≤_};
 ghost use lib.ListN.{length};
-ghost use Rattle.engine.specs.Code.Bank.{Rising};
+ghost use Rattle.power.specs.Code.Bank.{Rising};
 ghost use Rattle.engine.specs.Code.Simulation.{planOf};
 ghost use Rattle.engine.specs.Demand.{byEvents, bySteps};
 ghost use Rattle.files.specs.Check.{checkPlan, pairAnswer, AllSealed};

@@ -1,15 +1,15 @@
 // A check of a plan: the refusals 4 to 12.
-use crate::answer::Answer;
-use crate::answer::Refusal;
 use crate::pairs::FailingPair;
 use crate::pairs::failing_pair;
-use crate::places::Kind;
-use crate::places::place_of;
-use crate::plan::check_blocks;
 use crate::read::read_connectors;
 use crate::read::read_curves;
 use crate::read::read_site;
 use engine::site::Site;
+use plan::answer::Answer;
+use plan::answer::Refusal;
+use plan::places::Kind;
+use plan::places::place_of;
+use plan::plan::check_blocks;
 ghost use mathlib.Core.Path.{_≡_};
 ghost use lib.ListN.{length};
 ghost use Rattle.files.specs.Code.Reading.{Loaded, Counted};

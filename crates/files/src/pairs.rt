@@ -14,7 +14,7 @@ ghost use lib.ListN.{take};
 ghost use Rattle.curve.specs.Code.Rows.{points};
 ghost use Rattle.engine.specs.Plan.{chargerAt, rowAt};
 ghost use Rattle.engine.specs.Code.Simulation.{planOf};
-ghost use Rattle.files.specs.Search.{firstIndex};
+ghost use Rattle.plan.specs.Search.{firstIndex};
 ghost use Rattle.files.specs.Pairs.{fails as Pairs·fails, failingPair};
 
 // The places of a vehicle and of a charger, each among its kind.

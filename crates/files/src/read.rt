@@ -1,21 +1,9 @@
 // A plan read into what the engines work on. The plan's header says how many blocks of each kind follow.
-use crate::blocks::block;
-use crate::bytes::u8_at;
-use crate::bytes::u32_at;
-use crate::bytes::u64_at;
-use crate::fields::f64_at;
-use crate::fields::point_count;
-use crate::ids::with_id;
-use crate::places::Kind;
-use crate::places::block_of;
-use crate::places::charger_count;
-use crate::places::profile_count;
-use crate::places::start_of;
-use crate::places::vehicle_count;
 use charger::charger::Charger;
 use charger::connector::connector_row;
 use charger::connector::connectors_of;
 use charger::vehicle::Vehicle;
+use charger::vehicle::no_vehicle;
 use charger::vehicle_list::VehicleList;
 use curve::sort;
 use curve::units::Amperes;
@@ -23,8 +11,21 @@ use curve::units::Kw;
 use curve::units::Kwh;
 use curve::units::Seconds;
 use curve::units::Volts;
-use engine::site::Limit;
 use engine::site::Site;
+use plan::blocks::block;
+use plan::bytes::u8_at;
+use plan::bytes::u32_at;
+use plan::bytes::u64_at;
+use plan::fields::f64_at;
+use plan::fields::point_count;
+use plan::ids::with_id;
+use plan::places::Kind;
+use plan::places::block_of;
+use plan::places::charger_count;
+use plan::places::profile_count;
+use plan::places::start_of;
+use plan::places::vehicle_count;
+use power::power::Limit;
 ghost use mathlib.Core.Path.{_≡_};
 ghost use Prim.Native.Nat.{ℕ, _+_, _≤_, _<_};
 ghost use lib.ListN.{length, take};
@@ -32,8 +33,8 @@ ghost use Rattle.curve.specs.Code.Rows.{points};
 ghost use Rattle.charger.specs.Code.Vehicles.{listed};
 ghost use Rattle.charger.specs.Code.Profiles.{curveAt};
 ghost use Rattle.engine.specs.Code.Simulation.{batteryAt};
-ghost use Rattle.files.specs.Search.{each};
-ghost use Rattle.files.specs.Places.{chargerCount, vehicleCount};
+ghost use Rattle.plan.specs.Search.{each};
+ghost use Rattle.plan.specs.Places.{chargerCount, vehicleCount};
 ghost use Rattle.files.specs.Code.Reading.{Counted, SiteRead};
 ghost use Rattle.files.specs.Read.{pointAt, curveOfProfile, batteryOf, codesAt, chargerOf, rowOfCharger, chargersOf, connectorRows, profileIndex, vehicleOf, vehiclesOf, limitOf};
 
@@ -201,17 +202,7 @@ pub fn read_vehicles(plan: &[u8]) -> VehicleList
 {
     let start = start_of(plan, Kind::Vehicle);
     let n = vehicle_count(plan);
-    let none = Vehicle {
-        profile: 0,
-        codes: [0; 5],
-        count: 0,
-        start: 0.0,
-        target: 0.0,
-        idle: Seconds(0.0),
-        arrival: 0,
-        wait: 0,
-        limit: 0,
-    };
+    let none = no_vehicle();
     let mut all = [none; 64];
     let mut i = 0;
     while i < n {

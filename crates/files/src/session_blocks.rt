@@ -1,16 +1,16 @@
 // Blocks of sessions, five a block, from any place of a file on.
-use crate::blocks::seal;
 use crate::book_session::BookSession;
-use crate::bytes::put;
-use crate::bytes::put_fields;
 use curve::float::to_bits;
+use plan::blocks::seal;
+use plan::bytes::put;
+use plan::bytes::put_fields;
 ghost use mathlib.Core.Path.{_≡_};
 ghost use mathlib.Core.List.{_++_};
 ghost use Prim.Native.Nat.{_+_, _*_, _/_, _≤_};
 ghost use lib.ListN.{length, take};
 ghost use lib.Seq.{sets};
-ghost use Rattle.files.specs.Bytes.{bytes, pieces};
-ghost use Rattle.files.specs.Blocks.{sealed};
+ghost use Rattle.plan.specs.Bytes.{bytes, pieces};
+ghost use Rattle.plan.specs.Blocks.{sealed};
 ghost use Rattle.files.specs.Code.Writing.{emptyFrom};
 ghost use Rattle.files.specs.SessionBlocks.{sessionBytes, slot, sessionBlocks};
 

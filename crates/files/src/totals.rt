@@ -1,10 +1,10 @@
 // The counts of a run at its stop.
-use crate::answer::Totals;
 use crate::book_session::outcome_number;
 use engine::events::EventQueue;
 use engine::events::EventType;
 use engine::session::Sessions;
 use engine::site::Simulation;
+use plan::answer::Totals;
 ghost use mathlib.Core.Path.{_≡_};
 ghost use Prim.Native.Nat.{_≤_};
 ghost use lib.Dec.{eqb};

@@ -7,15 +7,15 @@ use lib.ListN.{length, getD, take, drop, length-append}
 use lib.Seq.{take-at, length-take-le}
 use borrow.Author.Tests.{ne-eqb}
 use Rattle.io.specs.Counts.{Counts}
-use Rattle.files.specs.Answer.{number, numbers}
+use Rattle.plan.specs.Answer.{number, numbers}
 use Rattle.files.specs.Call.{bookOf, bookAfter, answerOf}
 use Rattle.files.specs.Book.{sessionCount, written}
 use Rattle.files.specs.Demand.{ReadsBack}
-use Rattle.files.specs.declared.answer.Rule.the-variants.{Length, Check, Header, Field, NoPoint, EqualSoc, UsedId, NoProfile}
-use Rattle.files.specs.declared.answer.Refusal.{Refusal}
-use Rattle.files.specs.declared.answer.Refusal.the-variants.{Broken, CannotCharge}
-use Rattle.files.specs.declared.answer.RunAnswer.{RunAnswer}
-use Rattle.files.specs.declared.answer.RunAnswer.the-variants.{EngineAbove, AllowanceAbove, BookUnder, PlanRefused, Stopped}
+use Rattle.plan.specs.declared.answer.Rule.the-variants.{Length, Check, Header, Field, NoPoint, EqualSoc, UsedId, NoProfile}
+use Rattle.plan.specs.declared.answer.Refusal.{Refusal}
+use Rattle.plan.specs.declared.answer.Refusal.the-variants.{Broken, CannotCharge}
+use Rattle.plan.specs.declared.answer.RunAnswer.{RunAnswer}
+use Rattle.plan.specs.declared.answer.RunAnswer.the-variants.{EngineAbove, AllowanceAbove, BookUnder, PlanRefused, Stopped}
 use Rattle.files.proofs.ReadBack.{length-book}
 use Rattle.program.specs.Output.{engineOf, allowanceOf, planOf, line, outputOf, output}
 

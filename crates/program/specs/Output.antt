@@ -5,11 +5,11 @@ use mathlib.Core.List.{List, [], _∷_, _++_}
 use lib.Dec.{eqb, ltb}
 use lib.ListN.{getD, drop}
 use Rattle.io.specs.Digits.{digits}
-use Rattle.files.specs.Bytes.{leAt}
+use Rattle.plan.specs.Bytes.{leAt}
 use Rattle.files.specs.Read.{readPlan}
-use Rattle.files.specs.Answer.{numbers}
+use Rattle.plan.specs.Answer.{numbers}
 use Rattle.files.specs.Call.{stopOf, bookOf, answerOf}
-use Rattle.files.specs.declared.answer.RunAnswer.{RunAnswer}
+use Rattle.plan.specs.declared.answer.RunAnswer.{RunAnswer}
 
 -- ---- the input: an engine byte, a 32-bit allowance, then the plan; missing bytes are zero
 

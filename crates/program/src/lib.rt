@@ -1,13 +1,13 @@
 // What the program writes for an input: an engine byte, a 32-bit allowance and a plan give the book's blocks, or the refusal.
-use files::answer::run_numbers;
 use files::call::run;
+use plan::answer::run_numbers;
 ghost use mathlib.Core.Path.{_≡_};
 ghost use mathlib.Core.List.{[], _∷_, _++_};
 ghost use Prim.Native.Nat.{_+_, _*_, _/_, _≤_, _<_};
 ghost use lib.ListN.{length, take};
 ghost use lib.Seq.{sets};
 ghost use Rattle.io.specs.Counts.{Counts};
-ghost use Rattle.files.specs.Bytes.{leAt};
+ghost use Rattle.plan.specs.Bytes.{leAt};
 ghost use Rattle.files.specs.Book.{sessionCount, written};
 ghost use Rattle.program.specs.Output.{allowanceOf, planOf, decimal, line, output};
 

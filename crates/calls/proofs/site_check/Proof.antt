@@ -1,7 +1,7 @@
 -- `calls::site_check` meets its contract. Assumes nothing.
 use mathlib.Core.Path.{_∙_, ap, subst}
 use Rattle.files.specs.Check.{AllSealed}
-use Rattle.files.specs.Answer.{checkNumbers}
+use Rattle.plan.specs.Answer.{checkNumbers}
 use borrow.Author.Needs.{needs}
 use Rattle.calls.proofs.site_check.Statement.{statement}
 use Rattle.calls.proofs.site_check.Tie as tie

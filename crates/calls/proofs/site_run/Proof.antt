@@ -1,9 +1,9 @@
 -- `calls::site_run` meets its contract. Assumes nothing.
 use mathlib.Core.Path.{_∙_, ap, subst}
 use denote.Ref.{now}
-use Rattle.files.specs.Answer.{numbers}
+use Rattle.plan.specs.Answer.{numbers}
 use Rattle.files.specs.Call.{bookAfter}
-use Rattle.files.specs.declared.answer.RunAnswer.{RunAnswer}
+use Rattle.plan.specs.declared.answer.RunAnswer.{RunAnswer}
 use borrow.Author.Needs.{needs}
 use Rattle.files.proofs.Demanded.{Promises}
 use Rattle.calls.proofs.site_run.Statement.{statement}

@@ -39,7 +39,7 @@ use Rattle.engine.specs.Code.Simulation.{siteState, takes, behindFirst, 
 use Rattle.engine.specs.Demand.{isArrival, arrives, anyone}
 use Rattle.engine.proofs.site.Simulations.{same-site, is-found, is-nobody}
 use Rattle.engine.proofs.site.Places.{length-below, place-at}
-use Rattle.engine.proofs.timestep.Units.{and-right}
+use Rattle.power.proofs.charger_state.Vacant.{and-right}
 use Rattle.engine.proofs.site.Handlers.{starts, arrival-charges, arrival-turned, release-passes, release-frees}
 
 pub same-model : {s t : Discrete.State} → s .site ≡ t .site → s .handled ≡ t .handled → s ≡ t

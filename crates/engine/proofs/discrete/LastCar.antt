@@ -22,7 +22,7 @@ use Rattle.engine.proofs.site.Laws.{length-places}
 use Rattle.engine.proofs.discrete.EventLaws.{all-push, run-moves, every-run}
 use Rattle.engine.proofs.discrete.Busy.{takenAt, flagged, free-at, available-flag, tick-le, popped, no-unplug}
 use Rattle.engine.proofs.events.Order.{count-none}
-use Rattle.engine.proofs.timestep.Units.{and-right}
+use Rattle.power.proofs.charger_state.Vacant.{and-right}
 use Rattle.engine.proofs.timestep.Held.{not-both}
 
 -- ---- the last car at a charger

@@ -11,11 +11,11 @@ use lib.Ieee.{Float}
 use Rattle.engine.specs.declared.session.Session.{Session}
 use Rattle.engine.specs.declared.session.Outcome.the-variants.{Open}
 use Rattle.engine.specs.SiteState.{uncharged}
-use Rattle.engine.specs.declared.charger_state.ChargerState.{ChargerState}
+use Rattle.power.specs.declared.charger_state.ChargerState.{ChargerState}
 use Rattle.engine.specs.declared.session.Sessions.{Sessions}
-use Rattle.engine.specs.ChargerState.{isFinished}
+use Rattle.power.specs.ChargerState.{isFinished}
 use Rattle.engine.specs.Timestep.{finalized, closedAt, closed}
-use Rattle.engine.specs.Code.Bank.{stateAt, bank}
+use Rattle.power.specs.Code.Bank.{stateAt, bank}
 use Rattle.engine.specs.Code.Simulation.{booked}
 use Rattle.engine.specs.Code.Steps.{Rewritten}
 use Rattle.charger.proofs.waiting_queue.Part.{getD-any}

@@ -19,7 +19,7 @@ use Rattle.charger.proofs.Lists.{all-append, all-right, all-at, all-head, all-t
 use Rattle.charger.specs.Code.Queue.{waiting, seek}
 use Rattle.charger.specs.Code.Vehicles.{listed}
 use Rattle.charger.specs.Vehicle.{noVehicle, vehicleAt}
-use Rattle.engine.specs.declared.charger_state.ChargerState.{ChargerState}
+use Rattle.power.specs.declared.charger_state.ChargerState.{ChargerState}
 use Rattle.engine.specs.declared.events.Event.{Event}
 use Rattle.engine.specs.declared.events.EventQueue.{EventQueue}
 use Rattle.engine.specs.declared.events.EventType.{EventType}
@@ -28,17 +28,17 @@ use Rattle.engine.specs.declared.session.Session.{Session}
 use Rattle.engine.specs.declared.site.Site.{Site}
 use Rattle.engine.specs.declared.site.QueueChange.{QueueChange}
 use Rattle.engine.specs.declared.site.Simulation.{Simulation}
-use Rattle.engine.specs.Plan.{Plan}
+use Rattle.engine.specs.Plan.{Plan, vehicle, rated}
 use Rattle.engine.specs.SiteState.{SiteState, Change, below, balks, turned, withdrawn, freeAt, startCharging, withPending, handle, popped}
-use Rattle.engine.specs.ChargerState.{isFree, empty}
+use Rattle.power.specs.ChargerState.{isFree, empty}
 use Rattle.engine.specs.Timestep.{steps, openSession, plugged, due}
 use Rattle.engine.specs.Demand.{isArrival, isUnplug, arrives, anyone}
-use Rattle.engine.specs.Code.Bank.{bank, vacantAt, Room, Stored}
+use Rattle.power.specs.Code.Bank.{bank, vacantAt, Room, Stored}
 use Rattle.engine.specs.Code.Simulation.{pending, behindFirst, booked, siteState, planOf, takes, poppedFirst, Booked, Answers, Changed}
 use Rattle.engine.specs.Code.Steps.{RoomFor, Changes, isDue}
 use Rattle.engine.proofs.timestep.RunMoves.{pending-popped}
-use Rattle.engine.proofs.power.Passes.{length-bank, bank-set}
-use Rattle.engine.proofs.power.Gaps.{bank-at}
+use Rattle.power.proofs.power.Passes.{length-bank, bank-set}
+use Rattle.power.proofs.power.Gaps.{bank-at}
 use Rattle.engine.proofs.site.Simulations.{same-site, booked-sound, changed-site}
 use Rattle.engine.proofs.site.Handlers.{arrival-charges, arrival-turned}
 
@@ -127,8 +127,9 @@ module _ {s r : Simulation} where
 
 module _ (site : Site) (rows : List (List Bool)) (time v c : ℕ) {s r : Simulation} {F F′ : List (List Float)} {B B′ : List (List ℕ)} where
   pub starts : {x : Session} {state : ChargerState} → RoomFor 1 s → c < site .count → length (booked (s .sessions)) ≡ s .sessions .len → Booked x s r → Stored c state F B F′ B′
-      → ((t : Plan) → t .vehicles ≡ listed (site .vehicles) → x ≡ openSession t time v c)
-      → ((curves : List (List Float)) (lens : List ℕ) → state ≡ plugged (planOf site rows curves lens) time v c (s .sessions .len))
+      → x ≡ openSession (vehicleAt (listed (site .vehicles)) v) time v c
+      → ((curves : List (List Float)) (lens : List ℕ) → (let p = planOf site rows curves lens in
+      state ≡ plugged (vehicle p v) (p .battery (vehicle p v .profile)) (rated p v c) v (s .sessions .len)))
       → Changes site rows (λ t. startCharging t (steps t) time v c) s r F B F′ B′
   unfolding startCharging
   starts f h l b w e g =
@@ -138,7 +139,7 @@ module _ (site : Site) (rows : List (List Bool)) (time v c : ℕ) {s r : Simulat
             (ap pending (b .events))
             (ap waiting (b .queue))
             (bank-set w (site .count) h ∙ rw (l, g curves lens))
-            (b .sessions ∙ rw (e (planOf site rows curves lens) refl));
+            (b .sessions ∙ rw e);
         fit = fit-booked f b;
         events = b .events;
       }

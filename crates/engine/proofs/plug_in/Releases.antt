@@ -14,18 +14,18 @@ use Rattle.charger.specs.First.{found, first}
 use Rattle.charger.specs.Code.Queue.{waiting, Taken}
 use Rattle.charger.specs.Code.Vehicles.{listed}
 use Rattle.charger.specs.Vehicle.{fitsAt}
-use Rattle.engine.specs.declared.charger_state.ChargerState.{ChargerState}
+use Rattle.power.specs.declared.charger_state.ChargerState.{ChargerState}
 use Rattle.engine.specs.declared.session.Sessions.{Sessions}
 use Rattle.engine.specs.declared.site.Site.{Site}
 use Rattle.engine.specs.declared.site.Simulation.{Simulation}
 use Rattle.engine.specs.Plan.{Plan, rowAt, fits}
 use Rattle.engine.specs.SiteState.{SiteState, startCharging, freed, withQueue, release}
-use Rattle.engine.specs.ChargerState.{isFinished, empty}
+use Rattle.power.specs.ChargerState.{isFinished, empty}
 use Rattle.engine.specs.Timestep.{steps, closed, withClosed, finished, releaseAll, releaseFinished}
-use Rattle.engine.specs.Code.Bank.{stateAt, bank, Stored}
+use Rattle.power.specs.Code.Bank.{stateAt, bank, Stored}
 use Rattle.engine.specs.Code.Simulation.{siteState, planOf, requeued}
 use Rattle.engine.specs.Code.Steps.{RoomFor, Changes, Elsewhere, Rewritten, releasedIf}
-use Rattle.engine.proofs.power.Passes.{length-bank, bank-set}
+use Rattle.power.proofs.power.Passes.{length-bank, bank-set}
 use Rattle.engine.proofs.site.Simulations.{same-site, is-found, is-nobody}
 use Rattle.engine.proofs.plug_in.Handling.{SmallFound, small-first}
 use Rattle.engine.proofs.site.Handlers.{release-passes, release-frees}

@@ -21,8 +21,8 @@ use Rattle.engine.specs.declared.session.Outcome.{Outcome}
 use Rattle.engine.specs.declared.session.Outcome.the-variants.{Open}
 use Rattle.engine.specs.Plan.{Plan, vehicle, fits, stay}
 use Rattle.engine.specs.Events.{arrival, unplug, push, Sorted, least, generate}
-use Rattle.engine.specs.declared.charger_state.ChargerState.{ChargerState}
-use Rattle.engine.specs.ChargerState.{isFinished}
+use Rattle.power.specs.declared.charger_state.ChargerState.{ChargerState}
+use Rattle.power.specs.ChargerState.{isFinished}
 use Rattle.engine.specs.SiteState.{SiteState, initial, below, startCharging, uncharged, balks as balksAt, withPending, turnedAway, available, arrived, reneged, passedOn, release, handle, popped}
 use Rattle.engine.specs.Discrete.{State, chargedSession, run}
 use Rattle.engine.specs.Timestep.{steps, openSession, finalized, closed, finished, due, withClosed, releaseAll}

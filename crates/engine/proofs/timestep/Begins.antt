@@ -14,9 +14,9 @@ use Rattle.engine.specs.declared.events.Event.{Event}
 use Rattle.engine.specs.declared.site.Simulation.{Simulation}
 use Rattle.engine.specs.Plan.{Plan}
 use Rattle.engine.specs.Events.{arrival, renege, generate}
-use Rattle.engine.specs.ChargerState.{empty}
+use Rattle.power.specs.ChargerState.{empty}
 use Rattle.engine.specs.Timestep.{steps}
-use Rattle.engine.specs.Code.Bank.{stateAt, bank, Stored}
+use Rattle.power.specs.Code.Bank.{stateAt, bank, Stored}
 use Rattle.engine.specs.Code.Simulation.{Starts}
 use Rattle.engine.specs.Code.Steps.{RoomFor}
 use Rattle.engine.proofs.site.Moves as M

@@ -9,7 +9,7 @@ use lib.Dec.{leb}
 use Rattle.engine.specs.declared.events.Event.{Event}
 use Rattle.engine.specs.Plan.{Plan, vehicle}
 use Rattle.engine.specs.SiteState.{SiteState, withPending, popped}
-use Rattle.engine.specs.declared.charger_state.ChargerState.{ChargerState}
+use Rattle.power.specs.declared.charger_state.ChargerState.{ChargerState}
 use Rattle.engine.specs.Timestep.{State, steps, due, round, ended, after}
 use Rattle.engine.proofs.timestep.Units.{goes-on}
 use Rattle.engine.proofs.timestep.RunMoves.{pending-popped}

@@ -15,10 +15,10 @@ use Rattle.charger.proofs.waiting_queue.Part.{part-next, part-end}
 use Rattle.engine.specs.declared.events.EventQueue.{EventQueue}
 use Rattle.engine.specs.Events.{arrival}
 use Rattle.engine.specs.SiteState.{isEmpty}
-use Rattle.engine.specs.Timestep.{allFree}
-use Rattle.engine.specs.Code.Bank.{stateAt, bank, vacantAt}
+use Rattle.power.specs.ChargerState.{allFree}
+use Rattle.power.specs.Code.Bank.{stateAt, bank, vacantAt}
 use Rattle.engine.specs.Code.Simulation.{pending}
-use Rattle.engine.proofs.power.Gaps.{all-free-snoc}
+use Rattle.power.proofs.power.Gaps.{all-free-snoc}
 
 and-false : (b : Bool) → (b && false) ≡ false
 and-false true = refl

@@ -18,14 +18,14 @@ use Rattle.charger.specs.Lists.{count}
 use Rattle.engine.proofs.site.Kept.{kept-refl, kept-trans, kept-set}
 use Rattle.engine.specs.Demand.{has, isClosed, Kept}
 use Rattle.engine.proofs.site.Moves.{Progress}
-use Rattle.engine.specs.Plan.{Plan, fits}
+use Rattle.engine.specs.Plan.{Plan, fits, vehicle, rated}
 use Rattle.engine.specs.SiteState.{SiteState, uncharged, startCharging, freed, withQueue, withSession, passedOn, release, freeAt, initial}
-use Rattle.engine.specs.declared.charger_state.Status.{Status}
-use Rattle.engine.specs.declared.charger_state.Status.the-variants.{Free, Charging, Idle, Finished}
-use Rattle.engine.specs.declared.charger_state.ChargerState.{ChargerState}
-use Rattle.engine.specs.ChargerState.{isFree, isFinished, empty}
+use Rattle.power.specs.declared.charger_state.Status.{Status}
+use Rattle.power.specs.declared.charger_state.Status.the-variants.{Free, Charging, Idle, Finished}
+use Rattle.power.specs.declared.charger_state.ChargerState.{ChargerState}
+use Rattle.power.specs.ChargerState.{isFree, isFinished, empty}
 use Rattle.engine.specs.Timestep.{openSession, plugged, steps, finalized, closed, withClosed, powered, finished, releaseAll}
-use Rattle.engine.proofs.power.SameCars.{SameCars, none, also, same-free, same-session, same-size, same-charged}
+use Rattle.power.proofs.power.SameCars.{SameCars, none, also, same-free, same-session, same-size, same-charged}
 
 -- the session that `closed` falls back on
 abbrev pub missing : Session
@@ -94,16 +94,16 @@ module _ (t : Plan) where
       rw same (⊎-elim (λ (m : In i (c ∷ cs)). ⊎-elim (λ (q : i ≡ c). absurd (ne q)) inl m) inr (h i (rw same at o))))
       (same-or-not i c)
 
-  holds-new : (now v c : ℕ) (xs : List Session) → Holds c (plugged t now v c (length xs)) (xs ++ (openSession t now v c ∷ []))
+  holds-new : (now v c : ℕ) (xs : List Session) → Holds c (plugged (vehicle t v) (t .battery (vehicle t v .profile)) (rated t v c) v (length xs)) (xs ++ (openSession (vehicle t v) now v c ∷ []))
   unfolding plugged openSession
   holds-new now v c xs =
-      let e : getD (xs ++ (openSession t now v c ∷ [])) (length xs) missing ≡ openSession t now v c = getD-append-seam xs (openSession t now v c) [] missing in
+      let e : getD (xs ++ (openSession (vehicle t v) now v c ∷ [])) (length xs) missing ≡ openSession (vehicle t v) now v c = getD-append-seam xs (openSession (vehicle t v) now v c) [] missing in
       record { inside = rw length-append (omega arith); is-open = rw e; there = rw e }
 
   pub held-start : (now v c : ℕ) (cs : List ℕ) (f : SiteState ChargerState) → HeldBut cs f → HeldBut cs (startCharging t (steps t) now v c f)
   unfolding HeldBut startCharging
   held-start now v c cs f h i o =
-      let x = plugged t now v c (length (f .sessions)) in
+      let x = plugged (vehicle t v) (t .battery (vehicle t v .profile)) (rated t v c) v (length (f .sessions)) in
       ⊎-elim
       (λ (e : i ≡ c).
       ⊎-elim
@@ -112,7 +112,7 @@ module _ (t : Plan) where
       (at-set (f .places) c x))
       (λ (ne : i ≢ c).
       let same : getD (set (f .places) c x) i empty ≡ getD (f .places) i empty = getD-set-other (f .places) c i x empty ne in
-      rw same (⊎-elim inl (λ k. inr (holds-append i _ (f .sessions) (openSession t now v c ∷ []) k)) (h i (rw same at o))))
+      rw same (⊎-elim inl (λ k. inr (holds-append i _ (f .sessions) (openSession (vehicle t v) now v c ∷ []) k)) (h i (rw same at o))))
       (same-or-not i c)
 
   -- a released charger

@@ -6,13 +6,13 @@ use Prim.Native.Nat.{ℕ, _+_, _-_, _≤_}
 use native.Mathlib.Omega.{arith}
 use lib.Ieee.{Float}
 use lib.ListN.{length, replicate}
-use Rattle.engine.specs.declared.charger_state.ChargerState.{ChargerState}
+use Rattle.power.specs.declared.charger_state.ChargerState.{ChargerState}
 use Rattle.engine.specs.declared.site.Simulation.{Simulation}
 use Rattle.engine.specs.Plan.{Plan}
 use Rattle.engine.specs.SiteState.{SiteState}
-use Rattle.engine.specs.ChargerState.{empty}
+use Rattle.power.specs.ChargerState.{empty}
 use Rattle.engine.specs.Timestep.{steps, ended, start, after}
-use Rattle.engine.specs.Code.Bank.{bank}
+use Rattle.power.specs.Code.Bank.{bank}
 use Rattle.engine.specs.Code.Simulation.{Starts}
 use Rattle.engine.specs.Code.Steps.{RoomFor, stepState, GoesOn, RoundsDone, RunDone}
 use Rattle.engine.proofs.timestep.RunMoves.{stays}

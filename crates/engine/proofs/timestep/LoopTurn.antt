@@ -8,22 +8,24 @@ use borrow.Author.Tests.{leb-true, leb-false}
 use lib.Dec.{leb}
 use lib.Ieee.{Float}
 use Rattle.curve.specs.declared.points.Point.{Point}
-use Rattle.engine.specs.declared.charger_state.ChargerState.{ChargerState}
+use Rattle.power.specs.declared.charger_state.ChargerState.{ChargerState}
 use Rattle.engine.specs.declared.events.Event.{Event}
-use Rattle.engine.specs.declared.power.Spun as D
-use Rattle.engine.specs.declared.site.Limit.{Limit}
+use Rattle.power.specs.declared.power.Spun as D
+use Rattle.power.specs.declared.power.Limit.{Limit}
 use Rattle.engine.specs.declared.site.Site.{Site}
 use Rattle.engine.specs.declared.site.Simulation.{Simulation}
 use Rattle.charger.specs.Code.Profiles.{curveAt}
 use Rattle.engine.specs.Plan.{Plan}
 use Rattle.engine.specs.SiteState.{SiteState, isEmpty}
-use Rattle.engine.specs.Power.{charge}
-use Rattle.engine.specs.Code.Rounds.{anyFinished, Spun, spin}
-use Rattle.engine.specs.Timestep.{State, allFree, due, withClosed, releaseFinished, round, ended, after}
-use Rattle.engine.specs.Code.Bank.{bank, spun}
+use Rattle.power.specs.Power.{charge}
+use Rattle.power.specs.Code.Rounds.{anyFinished, Spun, spin}
+use Rattle.engine.specs.Timestep.{State, due, withClosed, releaseFinished, round, ended, after}
+use Rattle.power.specs.ChargerState.{allFree}
+use Rattle.power.specs.Code.Bank.{bank, spun}
 use Rattle.engine.specs.Code.Simulation.{pending, siteState, planOf}
 use Rattle.engine.specs.Code.Steps.{RoomFor, Changes, isDue, nextTime, stepState, GoesOn}
-use Rattle.engine.proofs.timestep.Units.{and-left, and-right, free-charge, free-closed, free-finished, goes-on}
+use Rattle.engine.proofs.timestep.Units.{free-closed, free-finished, goes-on}
+use Rattle.power.proofs.charger_state.Vacant.{and-left, and-right, free-charge}
 use Rattle.engine.proofs.timestep.Quiet.{NoneDue, landed, Landed, spin-lands}
 use Rattle.engine.proofs.timestep.DueFirst.{round-handled, after-handled}
 

@@ -19,19 +19,19 @@ use Rattle.engine.specs.declared.events.EventType.the-variants.{Arrival,
 use Rattle.engine.specs.declared.session.Session.{Session}
 use Rattle.engine.specs.declared.session.Outcome.{Outcome}
 use Rattle.engine.specs.declared.session.Outcome.the-variants.{Open, Charged, Reneged, Balked}
-use Rattle.engine.specs.declared.charger_state.Status.{Status}
-use Rattle.engine.specs.declared.charger_state.Status.the-variants.{Free, Charging, Idle, Finished}
-use Rattle.engine.specs.declared.charger_state.ChargerState.{ChargerState}
-use Rattle.engine.specs.ChargerState.{isFree, isFinished, empty}
-use Rattle.engine.specs.Plan.{Plan, fits}
+use Rattle.power.specs.declared.charger_state.Status.{Status}
+use Rattle.power.specs.declared.charger_state.Status.the-variants.{Free, Charging, Idle, Finished}
+use Rattle.power.specs.declared.charger_state.ChargerState.{ChargerState}
+use Rattle.power.specs.ChargerState.{isFree, isFinished, empty, allFree}
+use Rattle.engine.specs.Plan.{Plan, fits, vehicle, rated}
 use Rattle.engine.specs.SiteState.{SiteState, below, uncharged, balks as balksAt, withQueue, withPending, turnedAway, freed, startCharging, freeAt, available, arrived, reneged, passedOn, release, handle, popped, isEmpty}
-use Rattle.engine.specs.Timestep.{openSession, plugged, steps, finalized, closed, withClosed, powered, finished, allFree, ended, releaseAll, releaseFinished, run}
+use Rattle.engine.specs.Timestep.{openSession, plugged, steps, finalized, closed, withClosed, powered, finished, ended, releaseAll, releaseFinished, run}
 use Rattle.engine.specs.Demand.{isClosed, hasCharger, pluggedAt, ofOutcome, sessionsWith, LastCar, lastCar, lastAt, freeBySteps}
 use Rattle.engine.specs.Demand as D
 use Rattle.engine.proofs.site.Laws.{length-places}
-use Rattle.engine.proofs.timestep.Units.{and-left, and-right}
+use Rattle.power.proofs.charger_state.Vacant.{and-left, and-right}
 use Rattle.engine.proofs.timestep.Held.{missing, Holds, HeldBut, HeldFrom, same-or-not, not-both, close, held-tail, held-head, held-close, from-start, held-charged}
-use Rattle.engine.proofs.power.SameCars.{same-free, same-charged}
+use Rattle.power.proofs.power.SameCars.{same-free, same-charged}
 use Rattle.engine.proofs.timestep.RunMoves.{Keeps, run-keeps, run-reached}
 use Rattle.engine.proofs.site.Waits.{Dated, dated-at, all-set, KeptBy, keeps, kept-start}
 
@@ -196,7 +196,7 @@ module _ (p : Plan) where
   known-start : (now v c : ℕ) (f : F) → c < length (f .places) → left (getD (f .places) c empty .status) ≡ true → Known f → Known (startCharging p (steps p) now v c f)
   unfolding startCharging plugged openSession
   known-start now v c f b h k =
-      written (f .places) c _ _ b (told-start (openSession p now v c) (eq-eqb c c refl) (rw h at (k c))) (λ i ne. told-append (openSession p now v c) (ne-eqb i c ne) (k i))
+      written (f .places) c _ _ b (told-start (openSession (vehicle p v) now v c) (eq-eqb c c refl) (rw h at (k c))) (λ i ne. told-append (openSession (vehicle p v) now v c) (ne-eqb i c ne) (k i))
 
   known-passed : (now c : ℕ) (f : F) (x : Found) → c < length (f .places) → left (getD (f .places) c empty .status) ≡ true → Known f → Known (passedOn p (steps p) now c f x)
   known-passed now c f x b h k = go x
@@ -213,7 +213,7 @@ module _ (p : Plan) where
   unfolding startCharging
   passed-drop now c f nobody = drop-set-lt (suc c) (f .places) c empty (omega arith)
   passed-drop now c f (found v rest) =
-      drop-set-lt (suc c) (set (f .places) c empty) c (plugged p now v c (length (f .sessions))) (omega arith) ∙ drop-set-lt (suc c) (f .places) c empty (omega arith)
+      drop-set-lt (suc c) (set (f .places) c empty) c (plugged (vehicle p v) (p .battery (vehicle p v .profile)) (rated p v c) v (length (f .sessions))) (omega arith) ∙ drop-set-lt (suc c) (f .places) c empty (omega arith)
 
   -- the finished chargers from the place c on are released
   known-released : (now c : ℕ) (ss : List ChargerState) (f : F) → drop c (f .places) ≡ ss → Known f → Known (releaseAll p now (finished c ss) f)

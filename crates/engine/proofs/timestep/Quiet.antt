@@ -10,13 +10,13 @@ use Rattle.engine.specs.declared.events.Event.{Event}
 use Rattle.engine.specs.declared.session.Session.{Session}
 use Rattle.engine.specs.Plan.{Plan}
 use Rattle.engine.specs.SiteState.{SiteState}
-use Rattle.engine.specs.declared.charger_state.ChargerState.{ChargerState}
-use Rattle.engine.specs.ChargerState.{isFinished}
-use Rattle.engine.specs.Power.{charge}
-use Rattle.engine.specs.Code.Rounds.{anyFinished, Spun, spin}
+use Rattle.power.specs.declared.charger_state.ChargerState.{ChargerState}
+use Rattle.power.specs.ChargerState.{isFinished}
+use Rattle.power.specs.Power.{charge}
+use Rattle.power.specs.Code.Rounds.{anyFinished, Spun, spin}
 use Rattle.engine.specs.Timestep.{State, due, withPlaces, powered, closed, withClosed, finished, releaseFinished, round, ended, after}
 use Rattle.engine.proofs.timestep.Units.{goes-on}
-use Rattle.engine.proofs.power.SameCars.{same-all-free, same-charged}
+use Rattle.power.proofs.power.SameCars.{same-all-free, same-charged}
 
 -- no event is due before `until`
 abbrev pub NoneDue : ℕ → List Event → Type 0

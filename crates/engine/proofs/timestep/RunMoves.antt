@@ -19,7 +19,7 @@ use Rattle.engine.specs.SiteState.{SiteState, below, balks, withQueue, w
 use Rattle.engine.proofs.site.Moves.{progresses, Moves, none, then, moves-trans, released, pops}
 use Rattle.engine.proofs.site.Laws.{Lawful, Settled, spotsIn}
 use Rattle.engine.proofs.site.Laws as L
-use Rattle.engine.specs.declared.charger_state.ChargerState.{ChargerState}
+use Rattle.power.specs.declared.charger_state.ChargerState.{ChargerState}
 use Rattle.engine.specs.Timestep.{State, openSession, plugged, steps, due, powered, withClosed, finished, releaseAll, releaseFinished, round, ended, start, after, run}
 use Rattle.engine.proofs.timestep.Held.{HeldBut, held-append, held-start, held-passed, held-released, held-closed, held-charged, progress-closed, progress-charged, nothing-held}
 

@@ -9,7 +9,7 @@ use lib.Ieee.{Float}
 use Rattle.charger.specs.Lists.{count, All}
 use Rattle.charger.specs.Code.Queue.{waiting}
 use Rattle.charger.specs.Code.Vehicles.{listed}
-use Rattle.engine.specs.declared.charger_state.ChargerState.{ChargerState}
+use Rattle.power.specs.declared.charger_state.ChargerState.{ChargerState}
 use Rattle.engine.specs.declared.events.Event.{Event}
 use Rattle.engine.specs.declared.session.Session.{Session}
 use Rattle.engine.specs.declared.session.Sessions.{Sessions}
@@ -19,7 +19,7 @@ use Rattle.engine.specs.Plan.{Plan}
 use Rattle.engine.specs.SiteState.{SiteState, release}
 use Rattle.engine.specs.Timestep.{State, steps, ended, after, run}
 use Rattle.engine.specs.Demand.{isUnplug, arrives, anyone}
-use Rattle.engine.specs.Code.Bank.{stateAt, bank}
+use Rattle.power.specs.Code.Bank.{stateAt, bank}
 use Rattle.engine.specs.Code.Simulation.{pending, booked, siteState, planOf, Sound}
 
 -- Everybody who is yet to arrive or queued has room for a session, and `more` besides, and a place among 64. No unplug is

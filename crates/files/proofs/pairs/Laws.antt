@@ -8,10 +8,10 @@ use lib.ListN.{length, getD, take}
 use Rattle.charger.specs.declared.charger.Charger.{Charger}
 use Rattle.engine.specs.Plan.{Plan, chargerAt, rowAt}
 use Rattle.engine.proofs.site.At.{at-inside}
-use Rattle.files.specs.Search.{firstIndex}
+use Rattle.plan.specs.Search.{firstIndex}
 use Rattle.files.specs.Pairs.{failingCharger, failsSomewhere, failingPair}
 use Rattle.files.specs.declared.pairs.FailingPair.the-variants.{Nothing, Pair}
-use Rattle.files.proofs.SearchLaws.{first-again, first-found, first-none}
+use Rattle.plan.proofs.SearchLaws.{first-again, first-found, first-none}
 
 -- a member of an array's first n is one of the list that they stand for
 pub charger-inside : (l : List Charger) (n i : ℕ) (d : Charger) → i < n → i < length l → getD l i d ≡ chargerAt (take n l) i

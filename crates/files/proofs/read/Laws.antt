@@ -16,10 +16,10 @@ use Rattle.curve.specs.declared.units.Kwh.{Kwh}
 use Rattle.charger.specs.Code.Profiles.{curveAt}
 use Rattle.charger.proofs.waiting_queue.Part.{before-stays}
 use Rattle.charger.proofs.charge_profile_list.Profiles.{inside, past}
-use Rattle.files.specs.Plan.{idAt, withId}
-use Rattle.files.proofs.SearchLaws.{first-from, first-to, each-at}
-use Rattle.files.specs.Search.{each}
-use Rattle.files.specs.Places.{profileCount}
+use Rattle.plan.specs.Plan.{idAt, withId}
+use Rattle.plan.proofs.SearchLaws.{first-from, first-to, each-at}
+use Rattle.plan.specs.Search.{each}
+use Rattle.plan.specs.Places.{profileCount}
 use Rattle.files.specs.Read.{noBattery, curveOfProfile, batteryOf}
 
 -- ---- the search for an id

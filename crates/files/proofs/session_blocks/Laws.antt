@@ -11,15 +11,15 @@ use lib.Ieee.Bits.{ofBits-toBits, toBits-lt}
 use lib.ListN.{length, getD, take, drop, length-append, drop-of-length-le}
 use lib.Seq.{sets, length-take-le, drop-cons, drop-at, drop-drop}
 use Rattle.charger.proofs.waiting_queue.Part.{getD-any}
-use Rattle.files.specs.Bytes.{leAt, bytes, fields, pieces}
-use Rattle.files.specs.Blocks.{checkOf, sealed, passes}
-use Rattle.files.specs.Fields.{f64At}
+use Rattle.plan.specs.Bytes.{leAt, bytes, fields, pieces}
+use Rattle.plan.specs.Blocks.{checkOf, sealed, passes}
+use Rattle.plan.specs.Fields.{f64At}
 use Rattle.files.specs.BookSession.{noSession}
 use Rattle.files.specs.Code.Writing.{emptyFrom, Fits, FitBelow}
 use Rattle.files.specs.SessionBlocks.{sessionBytes, slot, sessionBlock, sessionBlocks, sessionOffset, sessionOf, sessionsFrom}
 use Rattle.files.specs.declared.book_session.BookSession.{BookSession}
-use Rattle.files.proofs.ByteLaws.{sets-append, length-bytes, length-pieces, read-back, Begins, piece-at}
-use Rattle.files.proofs.BlockLaws.{put-sealed, length-sealed, sealed-passes}
+use Rattle.plan.proofs.ByteLaws.{sets-append, length-bytes, length-pieces, read-back, Begins, piece-at}
+use Rattle.plan.proofs.BlockLaws.{put-sealed, length-sealed, sealed-passes}
 use Rattle.files.proofs.book_session.Laws.{first-same}
 
 pub length-session : (x : BookSession) → length (sessionBytes x) ≡ 96

@@ -1,20 +1,19 @@
 -- Refinement: a plan that was read into the program's structs.
 use Prim.Native.Nat.{ℕ, _≤_, _+_, _*_}
 use mathlib.Core.Path.{_≡_}
-use mathlib.Core.Bool.{Bool, not}
+use mathlib.Core.Bool.{Bool}
 use mathlib.Core.List.{List}
-use lib.ListN.{length, getD, take}
+use lib.ListN.{length, take}
 use Rattle.charger.specs.Code.Vehicles.{listed}
 use Rattle.engine.specs.Code.Simulation.{batteryAt}
 use Rattle.engine.specs.declared.site.Site.{Site}
-use Rattle.files.specs.Plan.{checkBlocks}
+use Rattle.plan.specs.Plan.{checkBlocks}
 use Rattle.files.specs.Read.{curveOfProfile, batteryOf, chargersOf, connectorRows, vehiclesOf, limitOf}
-use Rattle.files.specs.declared.answer.Answer.the-variants.{Fine}
+use Rattle.plan.specs.declared.answer.Answer.the-variants.{Fine}
 use Rattle.files.specs.Totals.{counted}
-use lib.Ieee.{Float, nan, eq}
+use lib.Ieee.{Float}
 use Rattle.charger.specs.Code.Profiles.{curveAt}
-use Rattle.files.specs.Search.{every}
-use Rattle.files.specs.Places.{profileCount, chargerCount, vehicleCount}
+use Rattle.plan.specs.Places.{profileCount, chargerCount, vehicleCount}
 
 -- a plan that is its header and as many blocks as the header says, no more of a kind than a plan can have
 pub record Counted (plan : List ℕ) : Type 0 where
@@ -22,10 +21,6 @@ pub record Counted (plan : List ℕ) : Type 0 where
   pub chargers : chargerCount plan ≤ 32
   pub vehicles : vehicleCount plan ≤ 64
   pub blocks : length plan ≡ 512 * (1 + profileCount plan + chargerCount plan + vehicleCount plan)
-
--- the i-th of some SOCs equals none before it
-unfoldable pub newAmong : List Float → ℕ → Bool
-newAmong socs i = every (λ j. not (eq (getD socs j nan) (getD socs i nan))) 0 i
 
 -- a site that holds what the engines read, but for connectors and curves
 pub record SiteRead (plan : List ℕ) (site : Site) : Type 0 where

@@ -5,7 +5,7 @@ use mathlib.Core.Bool.{Bool, true}
 use mathlib.Core.List.{List}
 use lib.Ieee.{binary64, fits}
 use lib.ListN.{getD, length, take}
-use Rattle.files.specs.Places.{chargerCount}
+use Rattle.plan.specs.Places.{chargerCount}
 use Rattle.files.specs.Code.Reading.{Counted}
 use Rattle.files.specs.Read.{connectorRows, vehiclesOf}
 use Rattle.files.specs.declared.book_session.BookSession.{BookSession}

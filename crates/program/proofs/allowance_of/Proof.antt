@@ -1,6 +1,6 @@
 -- `program::allowance_of` meets its contract. Assumes nothing.
 use native.Mathlib.Omega.{arith}
-use Rattle.files.specs.Bytes.{leAt}
+use Rattle.plan.specs.Bytes.{leAt}
 use borrow.Author.Needs.{needs}
 use Rattle.program.proofs.allowance_of.Statement.{statement}
 use Rattle.program.proofs.allowance_of.Tie as tie

@@ -1,7 +1,7 @@
 -- `program::book_length` meets its contract. Assumes nothing.
 use native.Mathlib.Omega.{arith}
 use borrow.Author.Needs.{needs}
-use Rattle.files.specs.Bytes.{leAt}
+use Rattle.plan.specs.Bytes.{leAt}
 use Rattle.program.proofs.book_length.Statement.{statement}
 use Rattle.program.proofs.book_length.Tie as tie
 use Rattle.program.proofs.book_length.Reads as reads

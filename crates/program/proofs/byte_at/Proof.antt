@@ -1,7 +1,7 @@
 -- `program::byte_at` meets its contract. Assumes nothing.
 use native.Mathlib.Omega.{arith}
 use lib.ListN.{List·getD-eq-default}
-use Rattle.files.specs.Bytes.{leAt}
+use Rattle.plan.specs.Bytes.{leAt}
 use borrow.Author.Needs.{needs}
 use Rattle.program.proofs.byte_at.Statement.{statement}
 use Rattle.program.proofs.byte_at.Tie as tie

@@ -1,7 +1,7 @@
 -- `program::reply` meets its contract. Assumes nothing.
 use mathlib.Core.Path.{_≡_, _∙_}
 use lib.ListN.{getD}
-use Rattle.files.specs.Answer.{numbers}
+use Rattle.plan.specs.Answer.{numbers}
 use Rattle.program.proofs.Answered.{shown, success, refusal, same-output}
 use borrow.Author.Needs.{needs}
 use Rattle.program.proofs.reply.Statement.{statement}
@@ -9,7 +9,7 @@ use Rattle.program.proofs.reply.Tie as tie
 use Rattle.program.proofs.reply.Reads as reads
 use Rattle.program.proofs.reply.Lts as lts
 use Rattle.files.proofs.call.run.Reads as run-reads
-use Rattle.files.proofs.answer.run_numbers.Reads as run-numbers-reads
+use Rattle.plan.proofs.answer.run_numbers.Reads as run-numbers-reads
 use Rattle.program.proofs.allowance_of.Reads as allowance-of-reads
 use Rattle.program.proofs.book_length.Reads as book-length-reads
 use Rattle.program.proofs.byte_at.Reads as byte-at-reads

@@ -3,7 +3,7 @@ use mathlib.Core.Path.{_≡_, refl}
 use Prim.Native.Nat.{_-_, _≤_}
 use native.Mathlib.Omega.{arith}
 use Rattle.engine.specs.Timestep.{closed}
-use Rattle.engine.specs.Code.Bank.{bank}
+use Rattle.power.specs.Code.Bank.{bank}
 use Rattle.engine.specs.Code.Steps.{Rewritten}
 use Rattle.engine.proofs.plug_in.Closings.{closed-more}
 use Rattle.engine.proofs.plug_in.close_finished.Statement.{statement}

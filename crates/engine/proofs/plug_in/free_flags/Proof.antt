@@ -4,7 +4,7 @@ use mathlib.Core.Bool.{false}
 use Prim.Native.Nat.{ℕ, _-_, _≤_, _<_}
 use native.Mathlib.Omega.{arith}
 use lib.ListN.{length, getD, length-set}
-use Rattle.engine.specs.Code.Bank.{vacantAt}
+use Rattle.power.specs.Code.Bank.{vacantAt}
 use Rattle.engine.proofs.plug_in.Handling.{flags-more}
 use borrow.Author.Needs.{needs}
 use Rattle.engine.proofs.plug_in.free_flags.Statement.{statement}

@@ -6,7 +6,7 @@ use native.Mathlib.Omega.{arith}
 use lib.ListN.{length}
 use lib.Ieee.{Float}
 use Rattle.engine.specs.declared.site.Simulation.{Simulation}
-use Rattle.engine.specs.Code.Bank.{bank}
+use Rattle.power.specs.Code.Bank.{bank}
 use Rattle.engine.specs.Code.Simulation.{siteState, planOf}
 use Rattle.engine.specs.Code.Steps.{RoomFor}
 use Rattle.engine.proofs.plug_in.Handling.{due-some, fit-popped, popped-less, no-unplug, comes, dueNow, due-more, due-none}

@@ -17,7 +17,7 @@ narrow-requires-3 c κs = search needs
 
 returns : tie.Need-returns
 unfolding plugged ratio ofBits
-returns c = λ t time at e b p. rw (c .narrow3 .ensures, c .before .narrow2 .ensures, c .before .before .narrow .ensures, b, p, e)
+returns c = rw (c .narrow3 .ensures, c .before .narrow2 .ensures, c .before .before .narrow .ensures)
 
 pub plugged-spec : {M : Type 1} → statement M
 plugged-spec = tie.close (tie.spec narrow-requires narrow-requires-2 narrow-requires-3 returns)

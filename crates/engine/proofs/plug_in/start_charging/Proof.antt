@@ -1,13 +1,9 @@
 -- `engine::plug_in::start_charging` meets its contract.
-use mathlib.Core.Path.{_≡_, sym, ap, _∙_}
-use mathlib.Core.List.{List}
+use mathlib.Core.Path.{_≡_, _∙_}
 use native.Mathlib.Omega.{arith}
 use lib.ListN.{length}
 use lib.Seq.{length-take-le}
-use Rattle.charger.specs.declared.vehicle.Vehicle.{Vehicle}
-use Rattle.charger.specs.Vehicle.{vehicleAt}
 use Rattle.charger.proofs.waiting_queue.Part.{length-mapped}
-use Rattle.engine.specs.Code.Simulation.{planOf}
 use Rattle.engine.proofs.plug_in.Handling.{profile-of, starts}
 use borrow.Author.Needs.{needs}
 use Rattle.engine.proofs.plug_in.start_charging.Statement.{statement}
@@ -60,8 +56,10 @@ returns c =
           (length-take-le _ _ (omega (arith, start .pre .1 .1 .0 .sound .sessions)))
           (c .with-session .ensures)
           stored
-          (λ t e. c .before .started .ensures t (car ∙ ap (λ (xs : List Vehicle). vehicleAt xs (a .v)) (sym e)))
-          (λ curves lens. c .before .before .before .before .before .before .before .plugged .ensures (planOf (a .site) (a .rows) curves lens) (a .time) (a .c) car (c .before .before .before .before .before .before .before .before .before .battery-of .ensures) (c .before .before .before .before .before .before .before .before .before .before .rated-of .ensures curves lens)),
+          (c .before .started .ensures ∙ rw car)
+          (λ curves lens.
+          c .before .before .before .before .before .before .before .plugged .ensures
+          ∙ rw (c .before .before .before .before .before .before .before .before .before .battery-of .ensures, c .before .before .before .before .before .before .before .before .before .before .rated-of .ensures curves lens, car)),
       stored .other,
     )
 

@@ -11,7 +11,7 @@ minus-requires c κs = search needs
 
 returns : tie.Need-returns
 unfolding openSession ratio ofBits
-returns c = λ t e. rw (c .minus .ensures, e)
+returns c = rw (c .minus .ensures)
 
 pub started-spec : {M : Type 1} → statement M
 started-spec = tie.close (tie.spec minus-requires returns)

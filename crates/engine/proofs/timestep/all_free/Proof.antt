@@ -3,8 +3,8 @@ use mathlib.Core.Path.{_≡_, refl, sym, _∙_}
 use mathlib.Core.Bool.{true}
 use Prim.Native.Nat.{_-_, _≤_}
 use native.Mathlib.Omega.{arith}
-use Rattle.engine.specs.Timestep.{allFree}
-use Rattle.engine.specs.Code.Bank.{bank}
+use Rattle.power.specs.ChargerState.{allFree}
+use Rattle.power.specs.Code.Bank.{bank}
 use Rattle.engine.proofs.timestep.Ends.{all-free-more, not-all-free}
 use borrow.Author.Needs.{needs}
 use Rattle.engine.proofs.timestep.all_free.Statement.{statement}

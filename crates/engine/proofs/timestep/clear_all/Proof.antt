@@ -3,8 +3,8 @@ use mathlib.Core.Path.{_≡_, refl, _∙_}
 use Prim.Native.Nat.{ℕ, _-_, _≤_, _<_}
 use native.Mathlib.Omega.{arith}
 use lib.ListN.{length}
-use Rattle.engine.specs.ChargerState.{empty}
-use Rattle.engine.specs.Code.Bank.{stateAt}
+use Rattle.power.specs.ChargerState.{empty}
+use Rattle.power.specs.Code.Bank.{stateAt}
 use Rattle.engine.proofs.timestep.Begins.{cleared-more, cleared-all}
 use Rattle.engine.proofs.timestep.clear_all.Statement.{statement}
 use Rattle.engine.proofs.timestep.clear_all.Tie as tie

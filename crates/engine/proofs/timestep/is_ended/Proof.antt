@@ -3,8 +3,8 @@ use mathlib.Core.Path.{_≡_}
 use native.Mathlib.Omega.{arith}
 use denote.Ref.{now}
 use lib.ListN.{length}
-use Rattle.engine.specs.Timestep.{allFree}
-use Rattle.engine.specs.Code.Bank.{bank}
+use Rattle.power.specs.ChargerState.{allFree}
+use Rattle.power.specs.Code.Bank.{bank}
 use Rattle.charger.proofs.waiting_queue.Part.{length-mapped}
 use Rattle.engine.proofs.timestep.Ends.{some-pending, ended-none, ended-queued}
 use borrow.Author.Needs.{needs}

@@ -4,8 +4,8 @@ use Prim.Native.Nat.{ℕ, _+_, _-_, _≤_, _<_}
 use native.Mathlib.Omega.{arith}
 use denote.Ref.{now}
 use Rattle.charger.specs.Code.Profiles.{curveAt}
-use Rattle.engine.specs.Code.Rounds.{Spun, spin}
-use Rattle.engine.specs.Code.Bank.{bank}
+use Rattle.power.specs.Code.Rounds.{Spun, spin}
+use Rattle.power.specs.Code.Bank.{bank}
 use Rattle.engine.specs.Code.Simulation.{pending}
 use Rattle.engine.specs.Code.Steps.{nextTime}
 use Rattle.engine.proofs.timestep.LoopTurn.{Next, next-quiet, counted, went-on, went-freeing}

@@ -2,9 +2,9 @@
 use mathlib.Core.Path.{refl}
 use native.Mathlib.Omega.{arith}
 use borrow.Author.Needs.{needs}
-use Rattle.files.specs.Bytes.{fields, bytes}
+use Rattle.plan.specs.Bytes.{fields, bytes}
 use Rattle.files.specs.Book.{headerBlock}
-use Rattle.files.proofs.BlockLaws.{put-sealed}
+use Rattle.plan.proofs.BlockLaws.{put-sealed}
 use Rattle.files.proofs.book.put_header.Statement.{statement}
 use Rattle.files.proofs.book.put_header.Tie as tie
 

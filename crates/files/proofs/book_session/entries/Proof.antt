@@ -7,7 +7,7 @@ use borrow.Author.Needs.{needs}
 use lib.ListN.{length, take, length-set}
 use Rattle.charger.specs.Code.Vehicles.{listed}
 use Rattle.charger.proofs.waiting_queue.Part.{length-mapped, map-step}
-use Rattle.files.specs.Places.{chargerCount}
+use Rattle.plan.specs.Places.{chargerCount}
 use Rattle.files.specs.BookSession.{entry}
 use Rattle.files.specs.Code.Writing.{emptyFrom, Fits, FitBelow}
 use Rattle.files.proofs.book_session.Laws.{empty-start, empty-set, fit-set}

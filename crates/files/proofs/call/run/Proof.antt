@@ -3,13 +3,13 @@ use mathlib.Core.Path.{_≡_, refl, sym, _∙_}
 use borrow.Author.Needs.{needs}
 use denote.Ref.{now}
 use lib.ListN.{length}
-use Rattle.files.specs.Plan.{checkBlocks}
+use Rattle.plan.specs.Plan.{checkBlocks}
 use Rattle.files.specs.Check.{thenPairs, pairAnswer}
 use Rattle.files.specs.Pairs.{failingPair}
 use Rattle.files.specs.Read.{readPlan}
 use Rattle.files.specs.Call.{stopOf, totals, ifFine, answerOf}
-use Rattle.files.specs.declared.answer.Answer.{Answer}
-use Rattle.files.specs.declared.answer.RunAnswer.the-variants.{EngineAbove, AllowanceAbove, BookUnder, PlanRefused, Stopped}
+use Rattle.plan.specs.declared.answer.Answer.{Answer}
+use Rattle.plan.specs.declared.answer.RunAnswer.the-variants.{EngineAbove, AllowanceAbove, BookUnder, PlanRefused, Stopped}
 use Rattle.files.proofs.Demanded.{promised}
 use Rattle.files.proofs.RunLaws.{engine-above, allowance-above, book-under, by-plan}
 use Rattle.files.proofs.call.run.Statement.{statement}

@@ -1,7 +1,7 @@
 -- `files::call::run_blocks` meets its contract. Assumes nothing.
 use mathlib.Core.Path.{refl, ap}
 use borrow.Author.Needs.{needs}
-use Rattle.files.specs.declared.answer.RunAnswer.the-variants.{Stopped}
+use Rattle.plan.specs.declared.answer.RunAnswer.the-variants.{Stopped}
 use Rattle.files.proofs.Accepted.{counted}
 use Rattle.files.proofs.call.run_blocks.Statement.{statement}
 use Rattle.files.proofs.call.run_blocks.Tie as tie

@@ -14,9 +14,9 @@ use Rattle.charger.specs.declared.charger.Charger.{Charger}
 use Rattle.charger.specs.declared.vehicle.Vehicle.{Vehicle}
 use Rattle.engine.specs.Plan.{chargerAt, rowAt}
 use Rattle.files.proofs.pairs.Laws.{charger-inside, row-inside}
-use Rattle.files.specs.Search.{firstIndex}
+use Rattle.plan.specs.Search.{firstIndex}
 use Rattle.files.specs.Pairs.{fails}
-use Rattle.files.proofs.SearchLaws.{first-again, first-found, first-none}
+use Rattle.plan.proofs.SearchLaws.{first-again, first-found, first-none}
 use Rattle.files.proofs.pairs.failing_charger.Statement.{statement}
 use Rattle.files.proofs.pairs.failing_charger.Tie as tie
 

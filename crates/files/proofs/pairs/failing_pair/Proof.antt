@@ -11,7 +11,7 @@ use Rattle.charger.specs.Vehicle.{noVehicle}
 use Rattle.charger.proofs.waiting_queue.Part.{length-mapped}
 use Rattle.engine.specs.Code.Simulation.{planOf}
 use Rattle.engine.proofs.site.At.{at-inside}
-use Rattle.files.specs.Search.{firstIndex}
+use Rattle.plan.specs.Search.{firstIndex}
 use Rattle.files.specs.Pairs.{failsSomewhere, failingCharger}
 use Rattle.files.proofs.pairs.Laws.{pair-met, pair-passed, pair-none}
 use Rattle.files.proofs.pairs.failing_pair.Statement.{statement}

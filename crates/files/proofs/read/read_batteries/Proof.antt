@@ -3,8 +3,8 @@ use mathlib.Core.Path.{_≡_, refl}
 use Prim.Native.Nat.{_-_, _≤_}
 use native.Mathlib.Omega.{arith}
 use lib.ListN.{length, take, length-set}
-use Rattle.files.specs.Search.{each}
-use Rattle.files.proofs.SearchLaws.{fill-step}
+use Rattle.plan.specs.Search.{each}
+use Rattle.plan.proofs.SearchLaws.{fill-step}
 use Rattle.files.specs.Read.{batteryOf}
 use Rattle.files.proofs.read.Laws.{all-batteries}
 use Rattle.files.proofs.read.read_batteries.Statement.{statement}

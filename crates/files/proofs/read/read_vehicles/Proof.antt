@@ -2,9 +2,10 @@
 use mathlib.Core.Path.{_≡_, refl, _∙_}
 use Prim.Native.Nat.{_-_, _≤_}
 use native.Mathlib.Omega.{arith}
+use borrow.Author.Needs.{needs}
 use lib.ListN.{length, take, length-set}
-use Rattle.files.specs.Search.{each}
-use Rattle.files.proofs.SearchLaws.{fill-step}
+use Rattle.plan.specs.Search.{each}
+use Rattle.plan.proofs.SearchLaws.{fill-step}
 use Rattle.files.specs.Read.{vehicleIn, vehiclesOf}
 use Rattle.files.proofs.read.read_vehicles.Statement.{statement}
 use Rattle.files.proofs.read.read_vehicles.Tie as tie
@@ -20,6 +21,9 @@ start-of-requires c κs = omega arith
 
 vehicle-count-requires : tie.Need-vehicle-count-requires Inv-loop μ-loop
 vehicle-count-requires c κs = omega arith
+
+no-vehicle-requires : tie.Need-no-vehicle-requires Inv-loop μ-loop
+no-vehicle-requires c κs = search needs
 
 loop-holds : tie.Need-loop-holds Inv-loop μ-loop
 unfolding each
@@ -57,7 +61,7 @@ unfolding vehicleIn
 loop-again c =
     let at-block = c .before .before .before in
     let at-loop = at-block .before .before in
-    let counts = at-loop .before .before in
+    let counts = at-loop .before .before .before in
     let a = counts .before .before .args in
     let same : c .read-vehicle .result ≡ vehicleIn (a .plan .now) (at-loop .loop .i) =
     c .read-vehicle .ensures ∙ rw (c .before .profile-index .ensures, c .before .before .u32-at .ensures, at-block .block .ensures .0, counts .start-of .ensures .0) in
@@ -67,8 +71,8 @@ returns : tie.Need-returns Inv-loop μ-loop
 unfolding vehiclesOf
 returns c =
     let at-loop = c .before in
-    let e : at-loop .loop .i ≡ at-loop .before .vehicle-count .result = omega arith in
-    (rw (← at-loop .before .vehicle-count .ensures .0, ← e) (at-loop .loop .inv .1 .1), at-loop .before .vehicle-count .ensures .0)
+    let e : at-loop .loop .i ≡ at-loop .before .before .vehicle-count .result = omega arith in
+    (rw (← at-loop .before .before .vehicle-count .ensures .0, ← e) (at-loop .loop .inv .1 .1), at-loop .before .before .vehicle-count .ensures .0)
 
 pub read-vehicles-spec : {M : Type 1} → statement M
 read-vehicles-spec =
@@ -78,6 +82,7 @@ read-vehicles-spec =
     μ-loop
     start-of-requires
     vehicle-count-requires
+    no-vehicle-requires
     loop-holds
     add-block
     block-requires

@@ -5,10 +5,10 @@ use native.Mathlib.Omega.{arith}
 use lib.ListN.{length, take, length-set}
 use mathlib.Core.List.{List, [], _∷_}
 use lib.Ieee.{Float}
-use Rattle.files.specs.Search.{each}
-use Rattle.files.proofs.SearchLaws.{fill-step, map-each}
+use Rattle.plan.specs.Search.{each}
+use Rattle.plan.proofs.SearchLaws.{fill-step, map-each}
 use Rattle.curve.specs.Code.Rows.{point}
-use Rattle.files.specs.Fields.{f64At}
+use Rattle.plan.specs.Fields.{f64At}
 use Rattle.files.proofs.read.store_points.Statement.{statement}
 use Rattle.files.proofs.read.store_points.Tie as tie
 

@@ -1,7 +1,7 @@
 -- `files::session_blocks::put_session` meets its contract. Assumes nothing.
 use native.Mathlib.Omega.{arith}
 use borrow.Author.Needs.{needs}
-use Rattle.files.specs.Bytes.{fields, bytes}
+use Rattle.plan.specs.Bytes.{fields, bytes}
 use Rattle.files.specs.SessionBlocks.{sessionBytes}
 use Rattle.files.proofs.session_blocks.put_session.Statement.{statement}
 use Rattle.files.proofs.session_blocks.put_session.Tie as tie

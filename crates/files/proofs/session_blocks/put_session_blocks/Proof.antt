@@ -6,9 +6,9 @@ use native.Mathlib.Omega.{arith}
 use borrow.Author.Needs.{needs}
 use lib.ListN.{length}
 use lib.Seq.{sets}
-use Rattle.files.specs.Bytes.{pieces}
+use Rattle.plan.specs.Bytes.{pieces}
 use Rattle.files.specs.SessionBlocks.{sessionBlock}
-use Rattle.files.proofs.ByteLaws.{pieces-step}
+use Rattle.plan.proofs.ByteLaws.{pieces-step}
 use Rattle.files.proofs.session_blocks.Laws.{length-session-block, five-slots, first-blocks}
 use Rattle.files.proofs.session_blocks.put_session_blocks.Statement.{statement}
 use Rattle.files.proofs.session_blocks.put_session_blocks.Tie as tie

@@ -1,0 +1,59 @@
+-- Rules. The paper's number and places of each answer, and its eleven result numbers.
+use Prim.Native.Nat.{ℕ}
+use mathlib.Core.List.{List, [], _∷_}
+use lib.ListN.{replicate}
+use Rattle.charger.specs.Lists.{tick}
+use Rattle.plan.specs.declared.answer.Rule.{Rule}
+use Rattle.plan.specs.declared.answer.Rule.the-variants.{Length, Check, Header, Field, NoPoint, EqualSoc, UsedId, NoProfile}
+use Rattle.plan.specs.declared.answer.Refusal.{Refusal}
+use Rattle.plan.specs.declared.answer.Refusal.the-variants.{Broken, CannotCharge}
+use Rattle.plan.specs.declared.answer.Answer.{Answer}
+use Rattle.plan.specs.declared.answer.Answer.the-variants.{Fine, Refused}
+use Rattle.plan.specs.declared.answer.RunAnswer.{RunAnswer}
+use Rattle.plan.specs.declared.answer.RunAnswer.the-variants.{EngineAbove, AllowanceAbove, BookUnder, PlanRefused, Stopped}
+
+-- ---- the number and places of each refusal
+
+abbrev pub ruleNumber : Rule → ℕ
+ruleNumber Length = 4
+ruleNumber Check = 5
+ruleNumber Header = 6
+ruleNumber Field = 7
+ruleNumber NoPoint = 8
+ruleNumber EqualSoc = 9
+ruleNumber UsedId = 10
+ruleNumber NoProfile = 11
+
+abbrev pub number : Refusal → ℕ
+number (Broken r k) = ruleNumber r
+number (CannotCharge v c) = 12
+
+abbrev pub place : Refusal → ℕ
+place (Broken r k) = k
+place (CannotCharge v c) = v
+
+abbrev pub otherPlace : Refusal → ℕ
+otherPlace (Broken r k) = 0
+otherPlace (CannotCharge v c) = c
+
+-- ---- the eleven numbers of each answer: number, places, units used, ended, the six counts
+
+-- every other result number is zero
+abbrev pub refused : ℕ → ℕ → ℕ → List ℕ
+refused k a b = k ∷ a ∷ b ∷ replicate 8 0
+
+abbrev pub refusalNumbers : Refusal → List ℕ
+refusalNumbers x = refused (number x) (place x) (otherPlace x)
+
+-- a check of a plan that is fine gives zeros
+abbrev pub checkNumbers : Answer → List ℕ
+checkNumbers Fine = replicate 11 0
+checkNumbers (Refused x) = refusalNumbers x
+
+abbrev pub numbers : RunAnswer → List ℕ
+numbers EngineAbove = refused 1 0 0
+numbers AllowanceAbove = refused 2 0 0
+numbers BookUnder = refused 3 0 0
+numbers (PlanRefused x) = refusalNumbers x
+numbers (Stopped t) =
+    0 ∷ 0 ∷ 0 ∷ t .used ∷ tick (t .ended) ∷ t .«yet_to_arrive» ∷ t .queued ∷ t .«still_open» ∷ t .charged ∷ t .reneged ∷ t .balked ∷ []

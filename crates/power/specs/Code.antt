@@ -1,0 +1,4 @@
+-- The vocabulary of refinement: what the contracts of inner functions cite beside the rules.
+pub mod Bank
+pub mod Rounds
+pub mod Alone

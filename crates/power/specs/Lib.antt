@@ -1,0 +1,4 @@
+-- What the contracts of the crate cite.
+pub mod ChargerState
+pub mod Power
+pub mod Code
