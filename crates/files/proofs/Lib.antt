@@ -1,8 +1,2 @@
--- Laws of the definitions, stated once.
-pub mod Accepted
-pub mod Within
-pub mod PairLaws
+-- Laws of the book that the crates above cite.
 pub mod ReadBack
-pub mod RunLaws
-pub mod BookDemand
-pub mod Demanded

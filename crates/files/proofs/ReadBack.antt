@@ -12,8 +12,8 @@ use Rattle.files.specs.Code.Writing.{FitBelow}
 use Rattle.files.specs.SessionBlocks.{slot, sessionBlock, sessionBlocks, sessionsFrom}
 use Rattle.files.specs.Book.{headerBlock, bookBytes, sessionCount, bookOffset, sessionsIn, ReadBack, written}
 use Rattle.files.specs.declared.book_session.BookSession.{BookSession}
-use Rattle.plan.proofs.ByteLaws.{read-back, next-place, Begins}
-use Rattle.plan.proofs.BlockLaws.{sealed-passes, length-sealed}
+use Rattle.plan.proofs.bytes.Laws.{read-back, next-place, Begins}
+use Rattle.plan.proofs.blocks.Laws.{sealed-passes, length-sealed}
 use Rattle.files.proofs.session_blocks.Laws.{length-session-block, length-session-blocks, session-block-passes, block-at, session-at, sessions-back}
 
 pub header-length : (count engine ended used : ℕ) → length (headerBlock count engine ended used) ≡ 512

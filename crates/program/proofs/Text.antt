@@ -10,7 +10,7 @@ use lib.Seq.{sets, sets-eq, drop-cons}
 use borrow.Author.Tests.{lt-ltb, le-ltb}
 use Rattle.io.specs.Digits.{digits, Fewest}
 use Rattle.files.specs.Book.{written}
-use Rattle.plan.proofs.ByteLaws.{sets-append}
+use Rattle.plan.proofs.bytes.Laws.{sets-append}
 use Rattle.program.specs.Output.{placesOf, decimal, line}
 
 -- one byte more of a run of stores

@@ -5,7 +5,7 @@ use Rattle.plan.specs.Answer.{numbers}
 use Rattle.files.specs.Call.{bookAfter}
 use Rattle.plan.specs.declared.answer.RunAnswer.{RunAnswer}
 use borrow.Author.Needs.{needs}
-use Rattle.files.proofs.Demanded.{Promises}
+use Rattle.files.proofs.call.Demanded.{Promises}
 use Rattle.calls.proofs.site_run.Statement.{statement}
 use Rattle.calls.proofs.site_run.Tie as tie
 

@@ -1,4 +1,4 @@
--- Points that rise by SOC: each SOC stands so to the next, as `le` or `lt`.
+-- Refinement: points that rise by SOC. Each SOC stands so to the next, as `le` or `lt`.
 use mathlib.Core.Bool.{Bool}
 use mathlib.Core.List.{List, [], _∷_}
 use lib.Dec.{T}

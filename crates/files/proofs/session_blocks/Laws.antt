@@ -18,8 +18,8 @@ use Rattle.files.specs.BookSession.{noSession}
 use Rattle.files.specs.Code.Writing.{emptyFrom, Fits, FitBelow}
 use Rattle.files.specs.SessionBlocks.{sessionBytes, slot, sessionBlock, sessionBlocks, sessionOffset, sessionOf, sessionsFrom}
 use Rattle.files.specs.declared.book_session.BookSession.{BookSession}
-use Rattle.plan.proofs.ByteLaws.{sets-append, length-bytes, length-pieces, read-back, Begins, piece-at}
-use Rattle.plan.proofs.BlockLaws.{put-sealed, length-sealed, sealed-passes}
+use Rattle.plan.proofs.bytes.Laws.{sets-append, length-bytes, length-pieces, read-back, Begins, piece-at}
+use Rattle.plan.proofs.blocks.Laws.{put-sealed, length-sealed, sealed-passes}
 use Rattle.files.proofs.book_session.Laws.{first-same}
 
 pub length-session : (x : BookSession) → length (sessionBytes x) ≡ 96

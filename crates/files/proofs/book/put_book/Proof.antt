@@ -10,7 +10,7 @@ use native.Mathlib.Nat.{zero-add}
 use Rattle.files.specs.SessionBlocks.{sessionBlocks}
 use Rattle.files.specs.Book.{headerBlock, bookBytes, written}
 use Rattle.files.specs.declared.book_session.BookSession.{BookSession}
-use Rattle.plan.proofs.ByteLaws.{sets-append}
+use Rattle.plan.proofs.bytes.Laws.{sets-append}
 use Rattle.files.proofs.ReadBack.{header-length, length-book}
 use Rattle.files.proofs.book.put_book.Statement.{statement}
 use Rattle.files.proofs.book.put_book.Tie as tie

@@ -4,7 +4,7 @@ use native.Mathlib.Omega.{arith}
 use borrow.Author.Needs.{needs}
 use Rattle.plan.specs.Bytes.{fields, bytes}
 use Rattle.files.specs.Book.{headerBlock}
-use Rattle.plan.proofs.BlockLaws.{put-sealed}
+use Rattle.plan.proofs.blocks.Laws.{put-sealed}
 use Rattle.files.proofs.book.put_header.Statement.{statement}
 use Rattle.files.proofs.book.put_header.Tie as tie
 

@@ -1,6 +1,6 @@
 -- `files::call::by_engine` meets its contract. Assumes nothing.
 use borrow.Author.Needs.{needs}
-use Rattle.files.proofs.RunLaws.{not-events}
+use Rattle.files.proofs.call.RunLaws.{not-events}
 use Rattle.files.proofs.call.by_engine.Statement.{statement}
 use Rattle.files.proofs.call.by_engine.Tie as tie
 

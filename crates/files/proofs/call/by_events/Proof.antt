@@ -3,7 +3,7 @@ use borrow.Author.Needs.{needs}
 use denote.Ref.{now}
 use Rattle.charger.proofs.waiting_queue.Part.{length-mapped}
 use Rattle.engine.specs.Code.Simulation.{planOf}
-use Rattle.files.proofs.RunLaws.{shows-events}
+use Rattle.files.proofs.call.RunLaws.{shows-events}
 use Rattle.files.proofs.call.by_events.Statement.{statement}
 use Rattle.files.proofs.call.by_events.Tie as tie
 

@@ -3,7 +3,7 @@ use borrow.Author.Needs.{needs}
 use native.Mathlib.Omega.{arith}
 use denote.Ref.{now}
 use Rattle.engine.specs.Code.Simulation.{planOf}
-use Rattle.files.proofs.RunLaws.{shows-steps}
+use Rattle.files.proofs.call.RunLaws.{shows-steps}
 use Rattle.files.proofs.call.by_steps.Statement.{statement}
 use Rattle.files.proofs.call.by_steps.Tie as tie
 

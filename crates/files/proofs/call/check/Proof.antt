@@ -1,6 +1,6 @@
 -- `files::call::check` meets its contract. Assumes nothing.
 use borrow.Author.Needs.{needs}
-use Rattle.files.proofs.PairLaws.{all-sealed}
+use Rattle.files.proofs.check.PairLaws.{all-sealed}
 use Rattle.files.proofs.call.check.Statement.{statement}
 use Rattle.files.proofs.call.check.Tie as tie
 

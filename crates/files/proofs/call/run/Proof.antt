@@ -10,8 +10,8 @@ use Rattle.files.specs.Read.{readPlan}
 use Rattle.files.specs.Call.{stopOf, totals, ifFine, answerOf}
 use Rattle.plan.specs.declared.answer.Answer.{Answer}
 use Rattle.plan.specs.declared.answer.RunAnswer.the-variants.{EngineAbove, AllowanceAbove, BookUnder, PlanRefused, Stopped}
-use Rattle.files.proofs.Demanded.{promised}
-use Rattle.files.proofs.RunLaws.{engine-above, allowance-above, book-under, by-plan}
+use Rattle.files.proofs.call.Demanded.{promised}
+use Rattle.files.proofs.call.RunLaws.{engine-above, allowance-above, book-under, by-plan}
 use Rattle.files.proofs.call.run.Statement.{statement}
 use Rattle.files.proofs.call.run.Tie as tie
 

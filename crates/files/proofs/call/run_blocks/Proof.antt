@@ -2,7 +2,7 @@
 use mathlib.Core.Path.{refl, ap}
 use borrow.Author.Needs.{needs}
 use Rattle.plan.specs.declared.answer.RunAnswer.the-variants.{Stopped}
-use Rattle.files.proofs.Accepted.{counted}
+use Rattle.files.proofs.read.Accepted.{counted}
 use Rattle.files.proofs.call.run_blocks.Statement.{statement}
 use Rattle.files.proofs.call.run_blocks.Tie as tie
 

@@ -6,7 +6,7 @@ use borrow.Author.Needs.{needs}
 use denote.Ref.{now}
 use Rattle.engine.specs.Code.Simulation.{planOf}
 use Rattle.files.specs.Book.{written}
-use Rattle.files.proofs.RunLaws.{runnable, rising, plan-read, writable, book-shown, back-shown, counts-shown}
+use Rattle.files.proofs.call.RunLaws.{runnable, rising, plan-read, writable, book-shown, back-shown, counts-shown}
 use Rattle.files.proofs.call.run_site.Statement.{statement}
 use Rattle.files.proofs.call.run_site.Tie as tie
 

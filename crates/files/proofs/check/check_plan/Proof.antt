@@ -2,7 +2,7 @@
 use mathlib.Core.Path.{sym, _∙_}
 use borrow.Author.Needs.{needs}
 use Rattle.files.specs.Check.{checkPlan}
-use Rattle.files.proofs.Accepted.{counted}
+use Rattle.files.proofs.read.Accepted.{counted}
 use Rattle.files.proofs.check.check_plan.Statement.{statement}
 use Rattle.files.proofs.check.check_plan.Tie as tie
 

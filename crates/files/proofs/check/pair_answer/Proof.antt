@@ -3,7 +3,7 @@ use mathlib.Core.Path.{sym, _∙_}
 use Prim.Native.Nat.{_<_}
 use native.Mathlib.Omega.{arith}
 use borrow.Author.Needs.{needs}
-use Rattle.files.proofs.PairLaws.{pair-places}
+use Rattle.files.proofs.check.PairLaws.{pair-places}
 use Rattle.files.proofs.check.pair_answer.Statement.{statement}
 use Rattle.files.proofs.check.pair_answer.Tie as tie
 

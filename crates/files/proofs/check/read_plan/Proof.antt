@@ -3,7 +3,7 @@ use mathlib.Core.Path.{_≡_, _∙_, ap}
 use borrow.Author.Needs.{needs}
 use Rattle.files.specs.Pairs.{failingPair}
 use Rattle.files.specs.Read.{readPlan}
-use Rattle.files.proofs.PairLaws.{site-read}
+use Rattle.files.proofs.check.PairLaws.{site-read}
 use Rattle.files.proofs.check.read_plan.Statement.{statement}
 use Rattle.files.proofs.check.read_plan.Tie as tie
 

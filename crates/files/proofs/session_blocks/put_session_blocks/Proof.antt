@@ -8,7 +8,7 @@ use lib.ListN.{length}
 use lib.Seq.{sets}
 use Rattle.plan.specs.Bytes.{pieces}
 use Rattle.files.specs.SessionBlocks.{sessionBlock}
-use Rattle.plan.proofs.ByteLaws.{pieces-step}
+use Rattle.plan.proofs.bytes.Laws.{pieces-step}
 use Rattle.files.proofs.session_blocks.Laws.{length-session-block, five-slots, first-blocks}
 use Rattle.files.proofs.session_blocks.put_session_blocks.Statement.{statement}
 use Rattle.files.proofs.session_blocks.put_session_blocks.Tie as tie

@@ -10,7 +10,7 @@ use Rattle.charger.proofs.waiting_queue.Part.{getD-any}
 use Rattle.plan.specs.Bytes.{pieces}
 use Rattle.files.specs.BookSession.{noSession}
 use Rattle.files.specs.SessionBlocks.{slot}
-use Rattle.plan.proofs.ByteLaws.{pieces-step}
+use Rattle.plan.proofs.bytes.Laws.{pieces-step}
 use Rattle.files.proofs.session_blocks.Laws.{length-slot}
 use Rattle.files.proofs.session_blocks.put_slots.Statement.{statement}
 use Rattle.files.proofs.session_blocks.put_slots.Tie as tie

@@ -4,7 +4,7 @@ use Prim.Native.Nat.{_+_, _-_, _%_, _^_, _≤_}
 use native.Mathlib.Omega.{arith}
 use borrow.Author.Needs.{needs}
 use Rattle.plan.specs.Blocks.{words, checkOf}
-use Rattle.plan.proofs.BlockLaws.{check-step}
+use Rattle.plan.proofs.blocks.Laws.{check-step}
 use Rattle.plan.proofs.blocks.check_of.Statement.{statement}
 use Rattle.plan.proofs.blocks.check_of.Tie as tie
 

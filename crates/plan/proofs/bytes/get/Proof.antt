@@ -5,7 +5,7 @@ use native.Mathlib.Nat.{sub-self, sub-zero, add-zero}
 use native.Mathlib.Omega.{arith}
 use borrow.Author.Needs.{needs}
 use Rattle.plan.specs.Bytes.{leAt}
-use Rattle.plan.proofs.ByteLaws.{get-step, leAt-below}
+use Rattle.plan.proofs.bytes.Laws.{get-step, leAt-below}
 use Rattle.plan.proofs.bytes.get.Statement.{statement}
 use Rattle.plan.proofs.bytes.get.Tie as tie
 

@@ -6,7 +6,7 @@ use native.Mathlib.Omega.{arith}
 use lib.ListN.{length, length-set}
 use lib.Seq.{sets}
 use Rattle.plan.specs.Bytes.{bytes}
-use Rattle.plan.proofs.ByteLaws.{put-step}
+use Rattle.plan.proofs.bytes.Laws.{put-step}
 use Rattle.plan.proofs.bytes.put.Statement.{statement}
 use Rattle.plan.proofs.bytes.put.Tie as tie
 

@@ -5,7 +5,7 @@ use native.Mathlib.Omega.{arith}
 use lib.ListN.{length, drop, getD, length-drop}
 use lib.Seq.{sets}
 use Rattle.plan.specs.Bytes.{fields}
-use Rattle.plan.proofs.ByteLaws.{fields-step, fields-left, fields-end}
+use Rattle.plan.proofs.bytes.Laws.{fields-step, fields-left, fields-end}
 use Rattle.plan.proofs.bytes.put_fields.Statement.{statement}
 use Rattle.plan.proofs.bytes.put_fields.Tie as tie
 

@@ -26,7 +26,7 @@ use Rattle.plan.specs.declared.answer.Refusal.the-variants.{Broken}
 use Rattle.plan.specs.declared.answer.Answer.{Answer}
 use Rattle.plan.specs.declared.answer.Answer.the-variants.{Fine, Refused}
 use Rattle.files.proofs.read.Laws.{with-id-from, with-id-to}
-use Rattle.plan.proofs.BlockLaws.{block-read, passes-sealed}
+use Rattle.plan.proofs.blocks.Laws.{block-read, passes-sealed}
 use Rattle.charger.proofs.Lists.{and-true}
 use Rattle.plan.proofs.SearchLaws.{holds-at, first-missed, all-each}
 

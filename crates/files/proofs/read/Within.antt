@@ -25,8 +25,8 @@ use Rattle.files.specs.Read.{pointAt, pointsOf, batteryOf, chargerOf, ch
 use Rattle.plan.specs.declared.answer.Answer.the-variants.{Fine}
 use Rattle.charger.proofs.Lists.{and-true}
 use Rattle.plan.proofs.SearchLaws.{every-at, length-each, each-at, all-each}
-use Rattle.plan.proofs.BlockLaws.{block-read}
-use Rattle.files.proofs.Accepted.{vehicle-tests, charger-tests, profile-tests, header-tests}
+use Rattle.plan.proofs.blocks.Laws.{block-read}
+use Rattle.files.proofs.read.Accepted.{vehicle-tests, charger-tests, profile-tests, header-tests}
 
 pub record VehicleWithin (x : Vehicle) : Type 0 where
   pub start : Soc (x .start)

@@ -21,8 +21,8 @@ use Rattle.plan.specs.declared.answer.Answer.the-variants.{Fine, Refused}
 use Rattle.plan.specs.declared.answer.Totals.{Totals}
 use Rattle.plan.specs.declared.answer.RunAnswer.{RunAnswer}
 use Rattle.plan.specs.declared.answer.RunAnswer.the-variants.{EngineAbove, AllowanceAbove, BookUnder, PlanRefused, Stopped}
-use Rattle.files.proofs.PairLaws.{plan-fine}
-use Rattle.files.proofs.BookDemand.{vehicle-count, outcomes-of-run, one-by-id, few-sessions, closed-stays}
+use Rattle.files.proofs.check.PairLaws.{plan-fine}
+use Rattle.files.proofs.call.BookDemand.{vehicle-count, outcomes-of-run, one-by-id, few-sessions, closed-stays}
 
 -- ---- what is known of a run that was not refused
 

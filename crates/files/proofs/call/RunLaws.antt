@@ -44,9 +44,9 @@ use Rattle.files.specs.Pairs.{failingPair}
 use Rattle.files.specs.Check.{pairAnswer, thenPairs, checkPlan}
 use Rattle.plan.specs.declared.answer.Answer.{Answer}
 use Rattle.plan.specs.declared.answer.RunAnswer.the-variants.{EngineAbove, AllowanceAbove, BookUnder, Stopped}
-use Rattle.files.proofs.Accepted.{in-time, profiles-named}
-use Rattle.files.proofs.Within.{points-within}
-use Rattle.files.proofs.PairLaws.{site-read}
+use Rattle.files.proofs.read.Accepted.{in-time, profiles-named}
+use Rattle.files.proofs.read.Within.{points-within}
+use Rattle.files.proofs.check.PairLaws.{site-read}
 use Rattle.files.specs.declared.call.Ran.{Ran}
 use Rattle.plan.specs.declared.answer.Totals.{Totals}
 

@@ -36,11 +36,11 @@ use Rattle.files.specs.Call.{stopOf}
 use Rattle.plan.specs.declared.answer.Answer.the-variants.{Fine}
 use Rattle.files.specs.declared.book_session.BookSession.{BookSession}
 use Rattle.plan.proofs.SearchLaws.{first-missed, length-each, each-at}
-use Rattle.plan.proofs.BlockLaws.{block-read}
-use Rattle.plan.proofs.ByteLaws.{Begins, leAt-drop}
+use Rattle.plan.proofs.blocks.Laws.{block-read}
+use Rattle.plan.proofs.bytes.Laws.{Begins, leAt-drop}
 use Rattle.files.proofs.session_blocks.Laws.{length-slot}
 use Rattle.files.proofs.ReadBack.{book-session-at, count-written}
-use Rattle.files.proofs.Accepted.{counted, vehicle-rule, kind-vehicle}
+use Rattle.files.proofs.read.Accepted.{counted, vehicle-rule, kind-vehicle}
 
 pub vehicle-count : (plan : List ℕ) → length (vehiclesOf plan) ≡ vehicleCount plan
 unfolding vehiclesOf

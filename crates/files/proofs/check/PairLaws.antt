@@ -23,7 +23,7 @@ use Rattle.plan.specs.Plan.{checkBlocks}
 use Rattle.files.specs.Check.{pairAnswer, thenPairs, checkPlan, AllSealed}
 use Rattle.files.specs.declared.pairs.FailingPair.{FailingPair}
 use Rattle.plan.specs.declared.answer.Answer.{Answer}
-use Rattle.files.proofs.Accepted.{sealed-block}
+use Rattle.files.proofs.read.Accepted.{sealed-block}
 use Rattle.plan.specs.declared.answer.Answer.the-variants.{Fine, Refused}
 
 -- ---- the pair that is named

@@ -11,7 +11,7 @@ use lib.ListN.{length, getD, take, drop, length-append, take-append-drop, length
 use lib.Seq.{sets, length-take-le, take-all, sets-eq, take-at, drop-at, getD-take, getD-drop}
 use Rattle.plan.specs.Bytes.{leAt, bytes}
 use Rattle.plan.specs.Blocks.{words, checkOf, sealed, passes, block}
-use Rattle.plan.proofs.ByteLaws.{sets-append, length-bytes, leAt-left, leAt-right, read-back, bytes-leAt}
+use Rattle.plan.proofs.bytes.Laws.{sets-append, length-bytes, leAt-left, leAt-right, read-back, bytes-leAt}
 
 -- one more word
 pub check-step : (b : List ℕ) (place sum i : ℕ) → sum ≡ (place + words i b) % 2 ^ 32

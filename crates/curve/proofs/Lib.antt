@@ -1,1 +1,0 @@
--- Lemmas that several proofs cite, and laws of the definitions.
