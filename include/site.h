@@ -61,6 +61,10 @@ enum site_number {
  *
  * plan, plan_length    the plan's bytes; read only
  * numbers              all eleven are written: refusals 4 to 12 with their places, or zeros for a plan that would be run
+ *
+ * Of a plan that is not refused it is proved: at a charger of lower rated power the same car, or one of the same profile, start
+ * and target, takes no less time to charge, peaks no higher, and takes the same energy, bit for bit. A run by events
+ * has just these numbers in its book.
  */
 void site_check(const uint8_t *plan, size_t plan_length, uint64_t numbers[SITE_NUMBERS]);
 

@@ -1,7 +1,7 @@
 //! Slips, each one further change, for a copy that the comparison must tell from the original.
 use crate::changes::{Change, change};
 
-pub const SLIPS: [(&str, Change); 12] = [
+pub const SLIPS: [(&str, Change); 16] = [
     (
         "unplugs-first",
         change(
@@ -93,4 +93,57 @@ pub const SLIPS: [(&str, Change); 12] = [
             "charger_state.current_soc > charger_state.target_soc",
         ),
     ),
+    // The cap. The first two leave request 13's law as it is: what they make of the cap still rises with it.
+    (
+        "caps-after-the-average",
+        change(
+            "ev/charge_profile.rs",
+            CAPPED,
+            "            let power_start = self.power_at(soc_seg_start)?;
+            let power_end = self.power_at(soc_seg_end)?;
+            let avg_power = (0.5 * (power_start + power_end)).min(max_power_kw);
+",
+        ),
+    ),
+    (
+        "larger-for-the-smaller",
+        change(
+            "ev/charge_profile.rs",
+            CAPPED,
+            "            let power_start = self.power_at(soc_seg_start)?.max(max_power_kw);
+            let power_end = self.power_at(soc_seg_end)?.max(max_power_kw);
+            let avg_power = 0.5 * (power_start + power_end);
+",
+        ),
+    ),
+    (
+        "split-at-the-cap",
+        change(
+            "ev/charge_profile.rs",
+            CAPPED,
+            "            let power_start = self.power_at(soc_seg_start)?;
+            let power_end = self.power_at(soc_seg_end)?;
+            let (low, high) = (power_start.min(power_end), power_start.max(power_end));
+            let avg_power = if low < max_power_kw && max_power_kw < high {
+                let above = (high - max_power_kw) / (high - low);
+                1.0 / (above / max_power_kw + (1.0 - above) / (0.5 * (max_power_kw + low)))
+            } else {
+                0.5 * (low.min(max_power_kw) + high.min(max_power_kw))
+            };
+",
+        ),
+    ),
+    (
+        "energy-by-power",
+        change(
+            "ev/charge_profile.rs",
+            "output.energy_kwh += seg_energy_kwh;",
+            "output.energy_kwh += avg_power * seg_duration_s / 3600.0;",
+        ),
+    ),
 ];
+
+const CAPPED: &str = "            let power_start = self.power_at(soc_seg_start)?.min(max_power_kw);
+            let power_end = self.power_at(soc_seg_end)?.min(max_power_kw);
+            let avg_power = 0.5 * (power_start + power_end);
+";

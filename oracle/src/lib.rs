@@ -9,6 +9,7 @@ pub mod book;
 pub mod draft;
 pub mod draw;
 pub mod generate;
+pub mod hot_day;
 pub mod plan;
 pub mod program;
 pub mod shrink;

@@ -9,12 +9,14 @@ ghost use Rattle.files.specs.Check.{checkPlan, AllSealed};
 ghost use Rattle.plan.specs.Answer.{checkNumbers, numbers as Answer·numbers};
 ghost use Rattle.files.specs.Call.{answerOf, bookLeft};
 ghost use Rattle.files.specs.Demand.{ReadsBack, UnitsUsed, FreeKnown, NoFreeFits, OneSpot, OneById, AddUp, CountsOfBook, ClosedStay, ExactWaits, Handled, EventsEnd, StepsEnd};
+ghost use Rattle.files.specs.HotDay.{HotDayOfPlan, HotDayOfRun, BookByRating};
 
 // Checks a plan; its numbers go to `numbers`.
 #[no_mangle]
 pub extern "C" fn site_check(plan: &[u8], numbers: &mut [u64; 11])
     ensures answer { λ _. ⌜ now (numbers .exit) ≡ checkNumbers (checkPlan (now (plan .entry))) ⌝ }
     ensures blocks { λ _. ⌜ AllSealed (now (plan .entry)) (checkPlan (now (plan .entry))) ⌝ }
+    ensures hot_day { λ _. ⌜ HotDayOfPlan (now (plan .entry)) (checkPlan (now (plan .entry))) ⌝ }
 {
     *numbers = check_numbers(check(plan));
 }
@@ -43,6 +45,8 @@ pub extern "C" fn site_run(
     ensures handled { λ _. ⌜ Handled (now (plan .entry)) engine allowance (answerOf (now (plan .entry)) engine allowance (length (now (book .entry)))) ⌝ }
     ensures events { λ _. ⌜ EventsEnd (now (plan .entry)) engine allowance (answerOf (now (plan .entry)) engine allowance (length (now (book .entry)))) ⌝ }
     ensures steps { λ _. ⌜ StepsEnd (now (plan .entry)) engine allowance (answerOf (now (plan .entry)) engine allowance (length (now (book .entry)))) ⌝ }
+    ensures hot_day { λ _. ⌜ HotDayOfRun (now (plan .entry)) (answerOf (now (plan .entry)) engine allowance (length (now (book .entry)))) ⌝ }
+    ensures rating { λ _. ⌜ BookByRating (now (plan .entry)) engine (now (book .exit)) (answerOf (now (plan .entry)) engine allowance (length (now (book .entry)))) ⌝ }
 {
     let answer = run(plan, engine, allowance, book);
     *numbers = run_numbers(answer);

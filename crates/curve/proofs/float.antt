@@ -3,3 +3,8 @@ pub mod Week
 pub mod Limits
 pub mod Exact
 pub mod Ceiling
+pub mod Clear
+pub mod Monotone
+pub mod Grid
+pub mod InUnits
+pub mod Quotients

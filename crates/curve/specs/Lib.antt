@@ -2,4 +2,5 @@
 pub mod F64
 pub mod Limits
 pub mod Curve
+pub mod HotDay
 pub mod Code

@@ -5,4 +5,5 @@ pub mod SiteState
 pub mod Discrete
 pub mod Timestep
 pub mod Demand
+pub mod HotDay
 pub mod Code

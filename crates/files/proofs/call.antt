@@ -2,3 +2,4 @@
 pub mod RunLaws
 pub mod BookDemand
 pub mod Demanded
+pub mod HotDay

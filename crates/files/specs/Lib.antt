@@ -8,4 +8,5 @@ pub mod Book
 pub mod Totals
 pub mod Call
 pub mod Demand
+pub mod HotDay
 pub mod Code

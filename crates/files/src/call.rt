@@ -26,6 +26,7 @@ ghost use Rattle.files.specs.Code.Running.{Runnable, Shows};
 ghost use Rattle.files.specs.Call.{stopOf, totals, ifFine, bookOf, answerOf, bookAfter};
 ghost use Rattle.files.specs.Book.{written};
 ghost use Rattle.files.specs.Demand.{ReadsBack, UnitsUsed, FreeKnown, NoFreeFits, OneSpot, OneById, AddUp, CountsOfBook, ClosedStay, ExactWaits, Handled, EventsEnd, StepsEnd};
+ghost use Rattle.files.specs.HotDay.{HotDayOfPlan, HotDayOfRun, BookByRating};
 
 // A run at its stop.
 pub struct Ran {
@@ -151,6 +152,7 @@ fn run_blocks(plan: &[u8], engine: u32, allowance: u32, book: &mut [u8]) -> RunA
 pub fn check(plan: &[u8]) -> Answer
     ensures answer { λ r. ⌜ r ≡ checkPlan (now (plan .entry)) ⌝ }
     ensures blocks { λ r. ⌜ AllSealed (now (plan .entry)) r ⌝ }
+    ensures hot_day { λ r. ⌜ HotDayOfPlan (now (plan .entry)) r ⌝ }
 {
     check_plan(plan)
 }
@@ -172,6 +174,8 @@ pub fn run(plan: &[u8], engine: u32, allowance: u32, book: &mut [u8]) -> RunAnsw
     ensures handled { λ r. ⌜ Handled (now (plan .entry)) engine allowance r ⌝ }
     ensures events { λ r. ⌜ EventsEnd (now (plan .entry)) engine allowance r ⌝ }
     ensures steps { λ r. ⌜ StepsEnd (now (plan .entry)) engine allowance r ⌝ }
+    ensures hot_day { λ r. ⌜ HotDayOfRun (now (plan .entry)) r ⌝ }
+    ensures rating { λ r. ⌜ BookByRating (now (plan .entry)) engine (now (book .exit)) r ⌝ }
 {
     if 1 < engine {
         return RunAnswer::EngineAbove;

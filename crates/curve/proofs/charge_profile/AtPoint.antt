@@ -22,7 +22,7 @@ use Rattle.curve.proofs.sort.Sorted.{Different, held-socs, rises-strict
 use Rattle.curve.proofs.sort.Held.{curve-held}
 
 -- ---- the point at a place
-held-at : (ps : List Point) (i : ℕ) → Held ps → i < length ps → Soc (getD ps i origin .soc) × Power (getD ps i origin .power .0)
+pub held-at : (ps : List Point) (i : ℕ) → Held ps → i < length ps → Soc (getD ps i origin .soc) × Power (getD ps i origin .power .0)
 unfolding Held
 held-at [] i k h = absurd (omega arith)
 held-at (p ∷ ps) zero k h = (k .0, k .1)

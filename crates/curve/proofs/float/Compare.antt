@@ -209,7 +209,7 @@ level-back s t a b h = subst (λ (c : ℕ). T (level s a t c)) (sym same) (go s 
     go false true h = h
     go false false h = h
 
-eq-back : (x y : Float) → T (eq y x) → T (eq x y)
+pub eq-back : (x y : Float) → T (eq y x) → T (eq x y)
 unfolding eq
 eq-back nan nan h = h
 eq-back nan (inf t) h = h

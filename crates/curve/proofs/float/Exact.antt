@@ -46,13 +46,13 @@ one-way m n (negsuc a) (negsuc b) o p h =
     (r .0, ap negsuc same)
 
 -- what `fits` says of a number that is not 0
-record Parts (f : Format) (m : ℕ) (e : ℤ) : Type 0 where
-  odd : m % 2 ≡ 1
-  small : m < 2 ^ prec f
-  fine : down e ≤ 2 ^ low f
-  under : m * up e < 2 ^ suc (emax f) * down e
+pub record Parts (f : Format) (m : ℕ) (e : ℤ) : Type 0 where
+  pub odd : m % 2 ≡ 1
+  pub small : m < 2 ^ prec f
+  pub fine : down e ≤ 2 ^ low f
+  pub under : m * up e < 2 ^ suc (emax f) * down e
 
-parts : (f : Format) (s : Bool) (m : ℕ) (e : ℤ) → T (fits f (fin s (suc m) e)) → Parts f (suc m) e
+pub parts : (f : Format) (s : Bool) (m : ℕ) (e : ℤ) → T (fits f (fin s (suc m) e)) → Parts f (suc m) e
 unfolding fits
 parts f s m e t =
     let a : Bool = eqb (suc m % 2) 1 in
@@ -88,7 +88,7 @@ pow-le a b h = go (ltb b a) (ltb→lt b a) (nltb→le b a)
     go true p q = absurd (not-le-of-lt (pow-lt (p tt)) h)
     go false p q = q tt
 
-shift : (f : Format) (m : ℕ) (e : ℤ) → down e ≤ 2 ^ low f → (j : ℕ) × (m * up e * 2 ^ low f ≡ m * 2 ^ j * down e)
+pub shift : (f : Format) (m : ℕ) (e : ℤ) → down e ≤ 2 ^ low f → (j : ℕ) × (m * up e * 2 ^ low f ≡ m * 2 ^ j * down e)
 shift f m (pos k) b = (k + low f, mul-assoc m (2 ^ k) (2 ^ low f) ∙ ap (λ (z : ℕ). m * z) (sym (pow-add 2 k (low f))) ∙ sym (mul-one (m * 2 ^ (k + low f))))
 shift f m (negsuc k) b =
     let j = low f - suc k in
@@ -105,14 +105,19 @@ top M n d l t e h L =
     lt-of-mul-lt-mul-right d
     (lt-of-le-of-lt (le-of-eq (sym e)) (lt-of-lt-of-le (mul-lt-mul-of-pos-right h L) (le-of-eq (mul-comm (t * d) l ∙ sym (mul-assoc l t d)))))
 
+-- in units it is below the overflow
+pub own-under : (f : Format) (m : ℕ) (e : ℤ) (t : T (fits f (fin false (suc m) e))) → suc m * 2 ^ shift f (suc m) e (parts f false m e t .fine) .0 < overflow f
+own-under f m e t =
+    let p = parts f false m e t in
+    let s = shift f (suc m) e (p .fine) in
+    lt-of-lt-of-le (top (suc m * up e) (suc m * 2 ^ s .0) (down e) (2 ^ low f) (2 ^ suc (emax f)) (s .1) (p .under) (pow-pos (low f))) (le-of-eq (sym (pow-add 2 (low f) (suc (emax f)))))
+
 own-round : (f : Format) (m : ℕ) (e : ℤ) → T (fits f (fin false (suc m) e)) → round f false (suc m * up e) (down e) ≡ fin false (suc m) e
 own-round f m e t =
     let p = parts f false m e t in
     let s = shift f (suc m) e (p .fine) in
-    let n = suc m * 2 ^ s .0 in
-    let under : n < 2 ^ (low f + suc (emax f)) = lt-of-lt-of-le (top (suc m * up e) n (down e) (2 ^ low f) (2 ^ suc (emax f)) (s .1) (p .under) (pow-pos (low f))) (le-of-eq (sym (pow-add 2 (low f) (suc (emax f))))) in
     same-number f (round f false (suc m * up e) (down e)) m e (round-fits f false (suc m * up e) (down e)) t
-    (round-exact f false (suc m * up e) (down e) (suc m) (s .0) (down-pos e) (p .small) under (s .1))
+    (round-exact f false (suc m * up e) (down e) (suc m) (s .0) (down-pos e) (p .small) (own-under f m e t) (s .1))
 
 -- ---- zero
 round-zero : (s : Bool) (c : ℕ) → 0 < c → round binary64 s 0 c ≡ fin s 0 (pos 0)
@@ -150,7 +155,7 @@ plus-zero m e true t = rw (zero-mul (down e), le-ltb (suc m * up e * 1) 0 zero-l
 plus-zero m e false t = rw (zero-mul (down e), add-zero (suc m * up e * 1), mul-one (suc m * up e), mul-one (down e)) (own-round binary64 m e t)
 
 -- ---- a difference
-finite-value : (x : Float) (s : Bool) (a c : ℕ) → HasValue x s a c → T (finite x)
+pub finite-value : (x : Float) (s : Bool) (a c : ℕ) → HasValue x s a c → T (finite x)
 finite-value nan s a c v = absurd v
 finite-value (inf t) s a c v = absurd v
 finite-value (fin t m e) s a c v = tt

@@ -17,7 +17,7 @@ use Rattle.curve.specs.declared.points.Point.{Point}
 use Rattle.curve.specs.Limits.{Within, Soc, Power, Held}
 
 -- what is rounded with a clear sign has a clear sign, and one with the sign set has not
-odd-clear : (d q k l : ℕ) → T (clear (odd d false q k l))
+pub odd-clear : (d q k l : ℕ) → T (clear (odd d false q k l))
 unfolding odd
 odd-clear d zero k l = tt
 odd-clear d (suc q) k l = tt

@@ -93,7 +93,7 @@ flagged-stepped p s (waits e es l k) h c i = omega (arith, popped p c s e es Arr
 flagged-stepped p s (frees e es l k) h c i =
     let j : c < length (s .site .places) = omega (arith, i, length-set (s .site .places) (e .charger) noCar) in
     freed-flag (s .site .places) c (e .charger) 0 j (eqb c (e .charger)) (count (unplugs c) es) refl (omega (arith, popped p c s e es Unplug l k, h c j))
-flagged-stepped p s (passes e es q v r l k x) h c i =
+flagged-stepped p s (passes e es q v r l k x a) h c i =
     let b = set (s .site .places) (e .charger) noCar in
     let j : c < length b = omega (arith, i, length-set b (e .charger) (car v)) in
     let g : c < length (s .site .places) = omega (arith, j, length-set (s .site .places) (e .charger) noCar) in

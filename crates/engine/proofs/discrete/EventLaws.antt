@@ -95,7 +95,7 @@ module _ (p : Plan) where
   used-step (balks e es l k) = inr refl
   used-step (waits e es l k) = inr refl
   used-step (frees e es l k) = inr refl
-  used-step (passes e es q v r l k x) = inr refl
+  used-step (passes e es q v r l k x a) = inr refl
   used-step (reneges e es q v r l k x a) = inr refl
   used-step (misses e es l k a) = inr refl
 
@@ -144,7 +144,7 @@ module _ (p : Plan) where
   events-stepped s (balks e es l k) = simp count-append (omega (arith, ap length l))
   events-stepped s (waits e es l k) = omega (arith, ap length l)
   events-stepped s (frees e es l k) = omega (arith, ap length l)
-  events-stepped s (passes e es q v r l k x) = simp (length-push, count-append) (omega (arith, ap length l))
+  events-stepped s (passes e es q v r l k x a) = simp (length-push, count-append) (omega (arith, ap length l))
   events-stepped s (reneges e es q v r l k x a) = simp count-append (omega (arith, ap length l))
   events-stepped s (misses e es l k a) = omega (arith, ap length l)
 
@@ -192,7 +192,7 @@ module _ (p : Plan) where
   times-stepped s (balks e es l k) h = later s (rw l at h)
   times-stepped s (waits e es l k) h = later s (rw l at h)
   times-stepped s (frees e es l k) h = later s (rw l at h)
-  times-stepped s (passes e es q v r l k x) h = pushed-times s e es v (e .charger) (rw l at h)
+  times-stepped s (passes e es q v r l k x a) h = pushed-times s e es v (e .charger) (rw l at h)
   times-stepped s (reneges e es q v r l k x a) h = later s (rw l at h)
   times-stepped s (misses e es l k a) h = later s (rw l at h)
 

@@ -111,7 +111,7 @@ module _ (p : Plan) (c : ℕ) where
   known-stepped s (balks e es l h) f k = rw last-append (all-tail (rw l at k))
   known-stepped s (waits e es l h) f k = all-tail (rw l at k)
   known-stepped s (frees e es l h) f k = all-tail (rw l at k)
-  known-stepped s (passes e es q v r l h x) f k =
+  known-stepped s (passes e es q v r l h x a) f k =
       plugs (e .time) (e .time + stay p v (e .charger)) v (e .charger) es (s .site .sessions)
       (λ z. omega (arith, popped p c s e es Unplug l h, f, ap tick z, tick-le (takenAt (s .site .places) c)))
       (all-tail (rw l at k))

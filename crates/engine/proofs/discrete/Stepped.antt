@@ -31,7 +31,7 @@ module _ (p : Plan) where
         → Stepped s (handled (withQueue (s .site .queue ++ (e .vehicle ∷ [])) (withPending es (s .site))) s)
     frees : (e : Event) (es : List Event) → s .site .pending ≡ e ∷ es → e .kind ≡ Unplug
         → Stepped s (handled (freed p (events p) (e .charger) (withPending es (s .site))) s)
-    passes : (e : Event) (es : List Event) (q : List ℕ) (v : ℕ) (r : List ℕ) → s .site .pending ≡ e ∷ es → e .kind ≡ Unplug → s .site .queue ≡ q ++ (v ∷ r)
+    passes : (e : Event) (es : List Event) (q : List ℕ) (v : ℕ) (r : List ℕ) → s .site .pending ≡ e ∷ es → e .kind ≡ Unplug → s .site .queue ≡ q ++ (v ∷ r) → fits p v (e .charger) ≡ true
         → Stepped s (handled (startCharging p (events p) (e .time) v (e .charger) (withQueue (q ++ r) (freed p (events p) (e .charger) (withPending es (s .site))))) s)
     reneges : (e : Event) (es : List Event) (q : List ℕ) (v : ℕ) (r : List ℕ) → s .site .pending ≡ e ∷ es → e .kind ≡ Renege → s .site .queue ≡ q ++ (v ∷ r)
         → eqb (e .vehicle) v ≡ true → Stepped s (handled (withSession (uncharged v Reneged (e .time - vehicle p v .arrival)) (withQueue (q ++ r) (withPending es (s .site)))) s)
@@ -51,7 +51,7 @@ module _ (p : Plan) where
     on-unplug : e .kind ≡ Unplug → {f : Found} → Searched (λ v. fits p v (e .charger)) (s .site .queue) f
         → Stepped s (handled (passedOn p (events p) (e .time) (e .charger) (withPending es (s .site)) f) s)
     on-unplug k (missed h) = frees e es l k
-    on-unplug k (met q v r h a x) = passes e es q v r l k x
+    on-unplug k (met q v r h a x) = passes e es q v r l k x a
 
     on-renege : e .kind ≡ Renege → {f : Found} → Searched (eqb (e .vehicle)) (s .site .queue) f
         → Stepped s (handled (reneged p (events p) (e .time) (withPending es (s .site)) f) s)

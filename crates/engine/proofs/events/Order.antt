@@ -53,7 +53,7 @@ module _ (p : Plan) where
   sorted-stepped s (balks e es l k) h = sorted-tail (rw l at h)
   sorted-stepped s (waits e es l k) h = sorted-tail (rw l at h)
   sorted-stepped s (frees e es l k) h = sorted-tail (rw l at h)
-  sorted-stepped s (passes e es q v r l k x) h = sorted-push _ (sorted-tail (rw l at h))
+  sorted-stepped s (passes e es q v r l k x a) h = sorted-push _ (sorted-tail (rw l at h))
   sorted-stepped s (reneges e es q v r l k x a) h = sorted-tail (rw l at h)
   sorted-stepped s (misses e es l k a) h = sorted-tail (rw l at h)
 
@@ -198,7 +198,7 @@ module _ (v : ℕ) where
     (rw count-append (or-joined (eqb v (e .vehicle)) (h .0) (h .1 .0) (omega (arith, o, gone (eqb v) (s .site) e es Arrival l k))), flagged s e es Arrival (h .0) l k (h .1 .1)),
   )
   settled-stepped p s (frees e es l k) o h = (h .0, (h .1 .0, flagged s e es Unplug (h .0) l k (h .1 .1)))
-  settled-stepped p s (passes e es q u r l k x) o h = (
+  settled-stepped p s (passes e es q u r l k x a) o h = (
     h .0,
     (
       rw count-append (omega (arith, h .1 .0, ap (count (eqb v)) x, count-append (eqb v) q (u ∷ r))),

@@ -108,7 +108,7 @@ module _ (p : Plan) where
       behind-first : {e : Event} {es : List Event} {a : ℕ} → Sorted (e ∷ es) → e .time ≡ a → All (λ x. a ≤ x .time) es
       behind-first {e} (least b s) n = all-map (λ x h. omega (arith, not-earlier x e h)) b
   kept-stepped s (frees e es l h) o k = record { dated = all-tail (rw l at (k .dated)); queued = all-later s l (k .queued); waited = k .waited }
-  kept-stepped s (passes e es q v r l h x) o k =
+  kept-stepped s (passes e es q v r l h x a) o k =
       let there : All (InTime p (s .site .pending)) (q ++ (v ∷ r)) = rw x at (k .queued) in
       let came : vehicle p v .arrival ≤ e .time = all-head (rw l at (all-head (all-right q there))) in
       record {

@@ -1,4 +1,4 @@
--- Demands 2 and 3 hold of what every run answers, and of the book that it leaves.
+-- Demands 2 and 3 and request 13 hold of what every run answers, and of the book that it leaves.
 use mathlib.Core.Path.{_≡_, refl, sym, ap, _∙_, subst}
 use mathlib.Core.Bool.{Bool, true, false, cond}
 use mathlib.Core.List.{List}
@@ -16,12 +16,15 @@ use Rattle.files.specs.Check.{checkPlan}
 use Rattle.files.specs.Book.{written}
 use Rattle.files.specs.Call.{stopOf, totals, ifFine, answerOf, bookOf, bookAfter}
 use Rattle.files.specs.Demand.{OfRun, ReadsBack, UnitsUsed, FreeKnown, NoFreeFits, OneSpot, OneById, AddUp, CountsOfBook, ClosedStay, ExactWaits, Handled, EventsEnd, StepsEnd}
+use Rattle.files.specs.HotDay.{HotDayOfRun, BookByRating}
+use Rattle.files.specs.BookSession.{bookSessions}
 use Rattle.plan.specs.declared.answer.Answer.{Answer}
 use Rattle.plan.specs.declared.answer.Answer.the-variants.{Fine, Refused}
 use Rattle.plan.specs.declared.answer.Totals.{Totals}
 use Rattle.plan.specs.declared.answer.RunAnswer.{RunAnswer}
 use Rattle.plan.specs.declared.answer.RunAnswer.the-variants.{EngineAbove, AllowanceAbove, BookUnder, PlanRefused, Stopped}
 use Rattle.files.proofs.check.PairLaws.{plan-fine}
+use Rattle.files.proofs.call.HotDay.{hot-day-of-plan, book-by-rating}
 use Rattle.files.proofs.call.BookDemand.{vehicle-count, outcomes-of-run, one-by-id, few-sessions, closed-stays}
 
 -- ---- what is known of a run that was not refused
@@ -110,7 +113,9 @@ Promises plan engine n book r =
     × (ExactWaits plan engine n r
     × (Handled plan engine n r
     × (EventsEnd plan engine n r
-    × StepsEnd plan engine n r)))))))))))
+    × (StepsEnd plan engine n r
+    × (HotDayOfRun plan r
+    × BookByRating plan engine book r)))))))))))))
 
 module _ (plan : List ℕ) (engine n room : ℕ) (r : RunAnswer) (e : r ≡ answerOf plan engine n room) where
   runs : OfRun (Runs plan engine n room) r
@@ -157,6 +162,9 @@ module _ (plan : List ℕ) (engine n room : ℕ) (r : RunAnswer) (e : r ≡ answ
   steps-end : StepsEnd plan engine n r
   steps-end = holds _ (λ z. rw z (step-demand (readPlan plan) n .ends))
 
+  hot-day : HotDayOfRun plan r
+  hot-day = of-map (λ t k. hot-day-of-plan plan (k .fine)) r runs
+
   -- ---- and those of the book
 
   module _ (old book : List ℕ) (b : book ≡ bookAfter plan engine n r old) (back : ReadsBack plan engine n book r) where
@@ -197,6 +205,10 @@ module _ (plan : List ℕ) (engine n room : ℕ) (r : RunAnswer) (e : r ≡ answ
         rw (answered plan engine m (length buffer) (k .0 .fine) (k .0 .either) most room′, k .1) stays)
         r runs-written back
 
+    -- by events its charged sessions say what charging takes
+    book-rated : BookByRating plan engine book r
+    book-rated = of-map (λ t h z. book-by-rating plan n _ (h .sessions ∙ ap (λ (e : ℕ). bookSessions plan (stopOf (readPlan plan) e n .sessions)) z)) r back
+
     pub promised : Promises plan engine n book r
     promised =
-        (back, (units-used, (free-known, (no-free-fits, (one-spot, (one-id, (add-up, (counts-of-book, (closed-stay, (exact-waits, (handled, (events-end, steps-end))))))))))))
+        (back, (units-used, (free-known, (no-free-fits, (one-spot, (one-id, (add-up, (counts-of-book, (closed-stay, (exact-waits, (handled, (events-end, (steps-end, (hot-day, book-rated))))))))))))))

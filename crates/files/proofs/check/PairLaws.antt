@@ -1,15 +1,16 @@
 -- Laws of the pairs of a vehicle and a charger. Assumes nothing.
 use mathlib.Core.Path.{_≡_, refl, sym, _∙_, ap}
-use mathlib.Core.Bool.{Bool, true, false, cond}
+use mathlib.Core.Bool.{Bool, true, false, cond, not, _&&_, false≢true}
 use mathlib.Core.List.{List}
-use Prim.Native.Nat.{ℕ, _<_}
+use Prim.Native.Nat.{ℕ, _≤_, _<_}
 use native.Mathlib.Omega.{arith}
-use borrow.Author.Tests.{ltb-true}
+use borrow.Author.Tests.{ltb-true, ltb-false}
 use lib.Dec.{ltb}
 use lib.Ieee.{Float}
 use lib.ListN.{length, getD, take}
 use Rattle.charger.specs.Code.Profiles.{curveAt}
-use Rattle.engine.specs.Plan.{Plan}
+use Rattle.curve.specs.F64.{within}
+use Rattle.engine.specs.Plan.{Plan, fits, rated, output}
 use Rattle.engine.specs.Code.Simulation.{planOf}
 use Rattle.engine.specs.declared.site.Site.{Site}
 use Rattle.plan.specs.Search.{firstIndex}
@@ -18,7 +19,7 @@ use Rattle.files.specs.Code.Reading.{Counted, SiteRead}
 use Rattle.files.specs.Read.{curveOfProfile, chargerOf, chargersOf, connectorRows, vehicleIn, vehiclesOf, readPlan}
 use Rattle.files.specs.Pairs.{failsAt, failingCharger, failsSomewhere, failingPair}
 use Rattle.files.specs.declared.pairs.FailingPair.the-variants.{Nothing, Pair}
-use Rattle.plan.proofs.SearchLaws.{first-holds, length-each}
+use Rattle.plan.proofs.SearchLaws.{first-holds, first-missed, length-each}
 use Rattle.plan.specs.Plan.{checkBlocks}
 use Rattle.files.specs.Check.{pairAnswer, thenPairs, checkPlan, AllSealed}
 use Rattle.files.specs.declared.pairs.FailingPair.{FailingPair}
@@ -45,6 +46,34 @@ pair-fails p v c e =
     let charger : failingCharger p x < m = ltb-true (failingCharger p x) m some in
     let bad : failsAt p x (failingCharger p x) ≡ true = first-holds (failsAt p x) 0 m (omega arith) in
     rw (← is .1 .0, ← is .1 .1) (inside, (charger, bad))
+
+-- ---- no pair is named
+
+no-pair : (t : Bool) (x y : ℕ) → cond t (Pair x y) Nothing ≡ Nothing → t ≡ false
+no-pair true x y e = absurd (let z : _≡_ {A = ℕ} 0 1 = cc in omega arith)
+no-pair false x y e = refl
+
+-- then no pair of the plan fails
+none-fails : (p : Plan) → failingPair p ≡ Nothing → (v c : ℕ) → v < length (p .vehicles) → c < length (p .chargers) → failsAt p v c ≡ false
+unfolding failingPair failingCharger
+none-fails p e v c h l =
+    let n = length (p .vehicles) in
+    let m = length (p .chargers) in
+    let x : ℕ = firstIndex (failsSomewhere p) 0 n in
+    let all : n ≤ x = ltb-false x n (no-pair (ltb x n) x (failingCharger p x) e) in
+    let nowhere : failsSomewhere p v ≡ false = first-missed (failsSomewhere p) 0 n (omega arith) v (omega arith) (omega arith) in
+    let past : m ≤ failingCharger p v = ltb-false (failingCharger p v) m nowhere in
+    first-missed (failsAt p v) 0 m (omega arith) c (omega arith) (omega arith)
+
+not-and : (b : Bool) → (true && not b) ≡ false → b ≡ true
+not-and true e = refl
+not-and false e = absurd (false≢true (sym e))
+
+-- and every pair that fits is charged within a week
+pub charged-in-time : (p : Plan) → failingPair p ≡ Nothing → (v c : ℕ) → v < length (p .vehicles) → c < length (p .chargers) → fits p v c ≡ true
+    → within (output p v c .duration .0) ≡ true
+unfolding fits output rated
+charged-in-time p e v c h l f = not-and (within (output p v c .duration .0)) (rw f at (none-fails p e v c h l))
 
 -- ---- the plan that the engines read is the one that the site, the rows and the table hold
 
