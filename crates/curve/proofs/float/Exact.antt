@@ -95,9 +95,12 @@ shift f m (negsuc k) b =
     let e : 2 ^ j * 2 ^ suc k ≡ 2 ^ low f = sym (pow-add 2 j (suc k)) ∙ ap (λ (z : ℕ). 2 ^ z) (back (low f) (suc k) (pow-le (suc k) (low f) b)) in
     (j, ap (λ (z : ℕ). z * 2 ^ low f) (mul-one m) ∙ ap (λ (z : ℕ). m * z) (sym e) ∙ sym (mul-assoc m (2 ^ j) (2 ^ suc k)))
 
-in-units : (f : Format) (m : ℕ) (e : ℤ) → T (fits f (fin false m e)) → (n : ℕ) × (m * up e * 2 ^ low f ≡ n * down e)
-in-units f zero e t = (0, ap (λ (z : ℕ). z * 2 ^ low f) (zero-mul (up e)) ∙ zero-mul (2 ^ low f) ∙ sym (zero-mul (down e)))
-in-units f (suc m) e t = let s = shift f (suc m) e (parts f false m e t .fine) in (suc m * 2 ^ s .0, s .1)
+pub zero-units : (f : Format) (e : ℤ) → 0 * up e * 2 ^ low f ≡ 0 * down e
+zero-units f e = ap (λ (z : ℕ). z * 2 ^ low f) (zero-mul (up e)) ∙ zero-mul (2 ^ low f) ∙ sym (zero-mul (down e))
+
+whole-units : (f : Format) (m : ℕ) (e : ℤ) → T (fits f (fin false m e)) → (n : ℕ) × (m * up e * 2 ^ low f ≡ n * down e)
+whole-units f zero e t = (0, zero-units f e)
+whole-units f (suc m) e t = let s = shift f (suc m) e (parts f false m e t .fine) in (suc m * 2 ^ s .0, s .1)
 
 -- its own value, rounded, is the float
 top : (M n d l t : ℕ) → M * l ≡ n * d → M < t * d → 0 < l → n < l * t
@@ -218,8 +221,8 @@ difference-above m e n d p q h =
     let b = n * up d * down e in
     let c = down e * down d in
     let l : b < a = ltb-true b a h in
-    let M = in-units binary64 m e p in
-    let N = in-units binary64 n d q in
+    let M = whole-units binary64 m e p in
+    let N = whole-units binary64 n d q in
     let am : a * 2 ^ 1074 ≡ M .0 * c = mul-right-comm (m * up e) (down d) (2 ^ 1074) ∙ ap (λ (z : ℕ). z * down d) (M .1) ∙ mul-assoc (M .0) (down e) (down d) in
     let bn : b * 2 ^ 1074 ≡ N .0 * c = mul-right-comm (n * up d) (down e) (2 ^ 1074) ∙ ap (λ (z : ℕ). z * down e) (N .1) ∙ mul-assoc (N .0) (down d) (down e) ∙ ap (λ (z : ℕ). N .0 * z) (mul-comm (down d) (down e)) in
     let far = apart a b c (N .0) (M .0) (2 ^ 1074) (mul-pos (down-pos e) (down-pos d)) (pow-pos 1074) am bn l in

@@ -14,7 +14,7 @@ use lib.Ieee.Exact.{HasValue}
 use lib.Ieee.Scale.{round-same, overflow, grid}
 use lib.Ieee.Positive.{first-pos}
 use borrow.Author.Tests.{ne-eqb, lt-ltb, le-ltb}
-use Rattle.curve.proofs.float.Exact.{parts, shift, own-under}
+use Rattle.curve.proofs.float.Exact.{parts, shift, zero-units, own-under}
 use Rattle.curve.proofs.float.Grid.{OnGrid, stays-below, value}
 
 -- ---- x is n units, and these are a float
@@ -28,7 +28,7 @@ pub in-units : (f : Format) (m : ℕ) (e : ℤ) → T (fits f (fin false m e)) �
 in-units f zero e t = (
   0,
   record {
-    value = (refl, ap (λ (z : ℕ). z * 2 ^ low f) (zero-mul (up e)) ∙ zero-mul (2 ^ low f) ∙ sym (zero-mul (down e)));
+    value = (refl, zero-units f e);
     held = (0, 0, pow-pos (prec f), refl);
     under = pow-pos (low f + suc (emax f));
   },

@@ -1,7 +1,7 @@
 -- What follows from the order of events: the event that pops is the least, and nobody is queued once no event is left.
 use mathlib.Core.Path.{_≡_, refl, sym, ap, _∙_, subst}
 use mathlib.Core.Logic.{_⊎_, inl, inr, ⊎-elim}
-use mathlib.Core.Bool.{Bool, true, false, not, _&&_, _||_}
+use mathlib.Core.Bool.{Bool, true, false, not, _&&_, _||_, and-false}
 use mathlib.Core.List.{List, [], _∷_}
 use Prim.Native.Nat.{ℕ, zero, suc, _+_, _≤_, _<_}
 use native.Mathlib.Nat.{eq-or-lt-of-le}
@@ -88,10 +88,6 @@ quiet-other : (v u : ℕ) (k : EventType) → eqb v u ≡ false → (w : Bool) �
 quiet-other v u Arrival h w = rw h
 quiet-other v u Renege h w = rw h
 quiet-other v u Unplug h w = refl
-
-and-false : (b : Bool) → (b && false) ≡ false
-and-false true = refl
-and-false false = refl
 
 contradict : {b c d : Bool} → b ≡ false → b ≡ true → c ≡ d
 contradict {b} h k = let z : false ≡ true = sym h ∙ k in cc

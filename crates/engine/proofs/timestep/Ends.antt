@@ -1,7 +1,7 @@
 -- Whether a run has ended, and the time of the next event, as the code finds them out.
 use mathlib.Core.Path.{_≡_, refl, sym}
 use mathlib.Core.Logic.{⊎-elim}
-use mathlib.Core.Bool.{Bool, true, false, _&&_}
+use mathlib.Core.Bool.{Bool, true, false, _&&_, and-false}
 use mathlib.Core.List.{List, [], _∷_}
 use Prim.Native.Nat.{ℕ, zero, suc, _+_, _≤_, _<_}
 use native.Mathlib.Nat.{eq-or-lt-of-le}
@@ -19,10 +19,6 @@ use Rattle.power.specs.ChargerState.{allFree}
 use Rattle.power.specs.Code.Bank.{stateAt, bank, vacantAt}
 use Rattle.engine.specs.Code.Simulation.{pending}
 use Rattle.power.proofs.power.Gaps.{all-free-snoc}
-
-and-false : (b : Bool) → (b && false) ≡ false
-and-false true = refl
-and-false false = refl
 
 and-true : (b : Bool) → (b && true) ≡ b
 and-true true = refl

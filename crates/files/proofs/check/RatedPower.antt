@@ -1,6 +1,6 @@
 -- A pair that fits is one of the plan, and its rated power is above 0 where the charger is within its limits. Assumes nothing.
 use mathlib.Core.Path.{_≡_, refl, sym, ap, _∙_}
-use mathlib.Core.Bool.{Bool, true, false, _&&_, false≢true}
+use mathlib.Core.Bool.{Bool, true, false, _&&_, false≢true, and-false}
 use mathlib.Core.List.{List, [], _∷_}
 use Prim.Native.Nat.{ℕ, zero, suc, _-_, _*_, _<_}
 use native.Mathlib.Nat.{mul-pos, zero-mul}
@@ -33,10 +33,6 @@ no-flag (suc (suc zero)) = refl
 no-flag (suc (suc (suc zero))) = refl
 no-flag (suc (suc (suc (suc zero)))) = refl
 no-flag (suc (suc (suc (suc (suc j))))) = List·getD-eq-default (replicate 5 false) false {n = suc (suc (suc (suc (suc j))))} (omega arith)
-
-and-false : (b : Bool) → (b && false) ≡ false
-and-false true = refl
-and-false false = refl
 
 no-code : (k : ℕ) → hasCode (replicate 5 false) k ≡ false
 no-code k = rw (no-flag (k - 1)) (and-false (leb 1 k))
