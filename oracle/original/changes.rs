@@ -16,12 +16,30 @@ pub const fn change(file: &'static str, old: &'static str, new: &'static str) ->
 const STD_HEAP: &str = "use std::collections::BinaryHeap;\n";
 const STAND_IN_HEAP: &str = "use binary_heap::BinaryHeap;\n";
 
-pub const CHANGES: [Change; 13] = [
-    // Document 01's stand-in for the heap. (The map's stand-in takes the crate's own name.)
+pub const CHANGES: [Change; 14] = [
+    // The stand-in for the heap, and what it pops by, which is request 4's. (The map's stand-in takes the crate's own name.)
     change("containers/vehicle_list.rs", STD_HEAP, STAND_IN_HEAP),
     change("evse/charger.rs", STD_HEAP, STAND_IN_HEAP),
     change("simulation/discrete.rs", STD_HEAP, STAND_IN_HEAP),
     change("simulation/timestep.rs", STD_HEAP, STAND_IN_HEAP),
+    change(
+        "events.rs",
+        "impl PartialOrd for Event {\n",
+        "impl binary_heap::InTurn for Event {
+    fn turn(&self) -> (u64, binary_heap::Kind, usize) {
+        let kind = match self.event_type {
+            EventType::Unplug => binary_heap::Kind::Unplug,
+            EventType::Arrival => binary_heap::Kind::Arrival,
+            EventType::Renege => binary_heap::Kind::Renege,
+        };
+        let place = self.charger_id.unwrap_or(self.vehicle_id).place();
+        (self.time, kind, place)
+    }
+}
+
+impl PartialOrd for Event {
+",
+    ),
     // The builder of vehicles samples; the oracle makes vehicles from the plan.
     change("ev/vehicle.rs", "use crate::distributions::{DurationSampler, ItemSampler, SocSampler};\n", ""),
     change("ev/vehicle.rs", "use rand::Rng;\n", ""),

@@ -1,15 +1,37 @@
 //! Slips, each one further change, for a copy that the comparison must tell from the original.
 use crate::changes::{Change, change};
 
-pub const SLIPS: [(&str, Change); 16] = [
+pub const SLIPS: [(&str, Change); 19] = [
+    // The order of one second.
     (
-        "unplugs-first",
+        "arrivals-before-unplugs",
         change(
             "events.rs",
-            "self.time.cmp(&other.time).reverse()",
-            "(self.time, self.event_type != EventType::Unplug).cmp(&(other.time, other.event_type != EventType::Unplug)).reverse()",
+            "            EventType::Unplug => binary_heap::Kind::Unplug,
+            EventType::Arrival => binary_heap::Kind::Arrival,
+",
+            "            EventType::Unplug => binary_heap::Kind::Arrival,
+            EventType::Arrival => binary_heap::Kind::Unplug,
+",
         ),
     ),
+    (
+        "reneges-before-arrivals",
+        change(
+            "events.rs",
+            "            EventType::Arrival => binary_heap::Kind::Arrival,
+            EventType::Renege => binary_heap::Kind::Renege,
+",
+            "            EventType::Arrival => binary_heap::Kind::Renege,
+            EventType::Renege => binary_heap::Kind::Arrival,
+",
+        ),
+    ),
+    (
+        "unplugs-by-vehicle",
+        change("events.rs", "self.charger_id.unwrap_or(self.vehicle_id).place()", "self.vehicle_id.place()"),
+    ),
+    ("places-from-the-last", change("events.rs", "(self.time, kind, place)", "(self.time, kind, usize::MAX - place)")),
     (
         "queue-limit-exceeded",
         change(

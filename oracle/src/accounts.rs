@@ -126,15 +126,16 @@ pub fn two_runs(engine: u32, shorter: &Run, longer: &Run) -> Found {
     demand(engine == 1 || few == more[..few.len()], "an event run's sessions are a prefix")
 }
 
-#[derive(Debug, Clone, Copy, PartialEq)]
+/// A pending event, in the order in which those of one second pop. An unplug has its charger's place, and its id.
+#[derive(Debug, Clone, Copy, PartialEq, Eq, PartialOrd, Ord)]
 enum Pending {
+    Unplug(usize, u32),
     Arrival(usize),
     Renege(usize),
-    Unplug(u32),
 }
 
-/// An event run unit by unit. Which event each unit pops follows from the plan and from the sessions so far:
-/// the least time, equal times in the order pushed. Returns the number of units.
+/// An event run unit by unit. Which event each unit pops follows from the plan and from the sessions so far.
+/// Returns the number of units.
 pub fn event_by_event(bytes: &[u8]) -> Result<u64, String> {
     let Ok(plan) = plan::read(bytes) else { return Ok(0) };
     let mut pending: Vec<(u64, Pending)> = Vec::new();
@@ -147,7 +148,7 @@ pub fn event_by_event(bytes: &[u8]) -> Result<u64, String> {
         return Ok(0);
     }
     let mut units = 0;
-    while let Some(at) = (0..pending.len()).min_by_key(|at| (pending[*at].0, *at)) {
+    while let Some(at) = (0..pending.len()).min_by_key(|at| pending[*at]) {
         let (time, event) = pending.remove(at);
         units += 1;
         let after = Run::new(bytes, 0, units);
@@ -156,7 +157,10 @@ pub fn event_by_event(bytes: &[u8]) -> Result<u64, String> {
         let session = after.sessions().last().filter(|_| new == 1).map(|session| session.to_vec());
         popped(&plan, event, time, session.as_deref(), &before, &after)?;
         if let Some(session) = session.filter(|session| session[13] == 1) {
-            pending.push((u64_at(&session, 32), Pending::Unplug(u32_at(&session, 8))));
+            let id = u32_at(&session, 8);
+            let place = plan.chargers.iter().position(|charger| charger.id == id);
+            let place = place.ok_or("a session's charger is one of the plan's")?;
+            pending.push((u64_at(&session, 32), Pending::Unplug(place, id)));
         }
         free_and_queued(&plan, &pending, &after)?;
         demand(after.numbers[4] == u64::from(pending.is_empty()), "a run has ended when no event is left")?;
@@ -170,7 +174,7 @@ pub fn event_by_event(bytes: &[u8]) -> Result<u64, String> {
 fn free_and_queued(plan: &Plan, pending: &[(u64, Pending)], after: &Run) -> Found {
     let busy: Vec<u32> = pending
         .iter()
-        .filter_map(|(_, event)| if let Pending::Unplug(id) = event { Some(*id) } else { None })
+        .filter_map(|(_, event)| if let Pending::Unplug(_, id) = event { Some(*id) } else { None })
         .collect();
     demand(busy.iter().enumerate().all(|(k, id)| !busy[..k].contains(id)), "one car a charger")?;
     let known: Vec<u32> = after.sessions().iter().map(|session| u32_at(session, 0)).collect();
@@ -197,7 +201,7 @@ fn popped(plan: &Plan, event: Pending, time: u64, session: Option<&[u8]>, before
             let own = session.is_none_or(|session| u32_at(session, 0) == plan.vehicles[v].id && session[13] == 2);
             demand(arrived == 0 && own, "a renege is its vehicle's")
         }
-        Pending::Unplug(id) => {
+        Pending::Unplug(_, id) => {
             let freed = session.is_none_or(|session| u32_at(session, 8) == id && u64_at(session, 24) == time);
             demand(arrived == 0 && freed, "a freed charger takes the next vehicle at once")
         }

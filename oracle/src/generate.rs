@@ -8,7 +8,7 @@ use crate::draft::Draft;
 use crate::draw::Draw;
 use crate::run;
 use faults::{cut_or_extended, damaged, edges, refused};
-use site::{CONTENTION, Clock, FEW, Idle, LARGEST, MANY, Soc, Style, TIES, draft};
+use site::{CONTENTION, Clock, FEW, Idle, LARGEST, MANY, NO_LENGTH, Soc, Style, TIES, draft};
 
 #[derive(Clone)]
 pub struct Case {
@@ -23,10 +23,11 @@ pub struct Case {
 type Shape = (&'static str, u64, fn(&mut Draw) -> Case);
 
 /// Each shape with its weight.
-pub const SHAPES: [Shape; 17] = [
+pub const SHAPES: [Shape; 18] = [
     ("few", 8, |d| good(d, FEW)),
     ("contention", 14, |d| good(d, CONTENTION)),
     ("ties at one second", 16, |d| good(d, TIES)),
+    ("stays of no length", 10, |d| good(d, NO_LENGTH)),
     ("many chargers", 4, |d| good(d, MANY)),
     ("site limits", 10, |d| good(d, Style { limit: true, ..CONTENTION })),
     ("fractional idle", 5, |d| good(d, Style { idle: Idle::Fractional, clock: Clock::Short, ..TIES })),

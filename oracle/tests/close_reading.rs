@@ -8,49 +8,90 @@ use oracle::draft::{Car, Draft, charger, profile, set_points};
 use oracle::program;
 use original::ev::{ChargeProfile, ChargeProfileRecord};
 
+/// Request 4: unplugs first, by charger place; then arrivals, then reneges, each by vehicle place.
 mod order_at_equal_times {
     use super::*;
 
-    #[test]
-    fn events_are_pushed_car_by_car() {
-        let [waits, comes] = [brief(0, 5, 10), brief(5, 5, 1)];
-        let outcomes = |cars: [Car; 2]| {
-            let mut draft = bay(&cars);
-            draft.chargers.clear();
-            let ran = events(&draft);
-            [1, 2].map(|id| ran.of(id).outcome)
-        };
-        assert_eq!(outcomes([waits.clone(), comes.clone()]), [2, 2]);
-        assert_eq!(outcomes([comes, waits]), [3, 2]);
+    const NACS: u8 = 5;
+    const CCS1: u8 = 1;
+
+    /// Parked from 0 to 10.
+    fn parked(codes: &[u8]) -> Car {
+        Car { codes: codes.to_vec(), idle: 10.0, ..brief(0, 9, 10) }
+    }
+
+    fn two_chargers(cars: &[Car]) -> Draft {
+        let mut draft = bay(cars);
+        draft.chargers = vec![charger(1, &[CCS1], 50.0, 1_200.0, 400.0), charger(2, &[NACS], 50.0, 1_200.0, 400.0)];
+        draft
     }
 
     #[test]
-    fn an_unplug_comes_after_arrivals_and_reneges_of_its_second() {
-        let second = |wait, queue_limit| {
+    fn an_arrival_comes_before_a_renege() {
+        let [waits, comes] = [brief(0, 5, 10), brief(5, 5, 1)];
+        let outcomes = |cars: [Car; 2], ran: fn(&Draft) -> common::Ran| {
+            let mut draft = bay(&cars);
+            draft.chargers.clear();
+            let ran = ran(&draft);
+            [1, 2].map(|id| ran.of(id).outcome)
+        };
+        for engine in [events, steps] {
+            assert_eq!(outcomes([waits.clone(), comes.clone()], engine), [2, 3]);
+            assert_eq!(outcomes([comes.clone(), waits.clone()], engine), [3, 2]);
+        }
+    }
+
+    #[test]
+    fn an_unplug_comes_before_an_arrival() {
+        for (wait, queue_limit) in [(100, 0), (0, 10), (1, 10)] {
             let ran = events(&bay(&[Car::default(), brief(2_020, wait, queue_limit)]));
+            assert_eq!((ran.of(2).outcome, ran.of(2).plugin, ran.of(2).wait), (1, Some(2_020), 0));
+        }
+    }
+
+    #[test]
+    fn by_steps_a_charger_is_freed_at_the_end_of_its_round() {
+        let second = |wait, queue_limit| {
+            let ran = steps(&bay(&[parked(&[NACS]), brief(10, wait, queue_limit)]));
+            assert_eq!(ran.of(1).unplug, Some(10));
             (ran.of(2).outcome, ran.of(2).plugin, ran.of(2).wait)
         };
         assert_eq!(second(100, 0), (3, None, 0));
         assert_eq!(second(0, 10), (2, None, 0));
-        assert_eq!(second(1, 10), (1, Some(2_020), 0));
+        assert_eq!(second(1, 10), (1, Some(10), 0));
     }
 
     #[test]
-    fn a_stay_of_no_length_unplugs_behind_its_second() {
+    fn a_stay_of_no_length_unplugs_before_the_next_arrival() {
         let ran = events(&bay(&[brief(0, 0, 0), brief(0, 0, 0), brief(0, 0, 1)]));
-        assert_eq!((ran.of(1).unplug, ran.of(2).outcome, ran.of(3).outcome), (Some(0), 3, 2));
-        assert_eq!(ran.used(), 7);
+        assert_eq!([1, 2, 3].map(|id| (ran.of(id).outcome, ran.of(id).unplug)), [(1, Some(0)); 3]);
+        assert_eq!(ran.used(), 9);
     }
 
     #[test]
-    fn two_unplugs_in_one_second() {
-        let nacs = Car { codes: vec![5], ..brief(0, 9, 10) };
-        let ccs1 = Car { codes: vec![1], ..brief(0, 9, 10) };
-        let either = Car { codes: vec![1, 5], ..brief(0, 9, 10) };
-        let mut draft = bay(&[nacs, ccs1, either]);
-        draft.chargers = vec![charger(1, &[1], 50.0, 1_200.0, 400.0), charger(2, &[5], 50.0, 1_200.0, 400.0)];
-        assert_eq!(events(&draft).of(3).charger, Some(2), "in the order pushed by events");
-        assert_eq!(steps(&draft).of(3).charger, Some(1), "in charger order by steps");
+    fn a_stay_of_no_length_unplugs_before_a_later_place() {
+        let [ccs1, nacs] = [&[CCS1][..], &[NACS]].map(parked);
+        let either = Car { codes: vec![CCS1, NACS], ..brief(5, 100, 10) };
+        let ran = events(&two_chargers(&[ccs1, nacs, either.clone(), either]));
+        assert_eq!([3, 4].map(|id| (ran.of(id).plugin, ran.of(id).charger)), [(Some(10), Some(1)); 2]);
+    }
+
+    #[test]
+    fn two_unplugs_in_one_second_go_by_charger_place() {
+        let either = Car { codes: vec![CCS1, NACS], ..brief(0, 100, 10) };
+        let draft = two_chargers(&[parked(&[NACS]), parked(&[CCS1]), either]);
+        for ran in [events(&draft), steps(&draft)] {
+            assert_eq!(ran.of(3).charger, Some(1));
+        }
+    }
+
+    #[test]
+    fn a_wait_of_none_leaves_nobody_queued() {
+        let mut draft = bay(&[brief(7, 0, 10), brief(7, 0, 10)]);
+        draft.chargers.clear();
+        for ran in [events(&draft), steps(&draft)] {
+            assert_eq!(ran.counts(), [0, 0, 0, 0, 2, 0]);
+        }
     }
 }
 

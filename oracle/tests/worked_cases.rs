@@ -31,7 +31,7 @@ fn m2() {
 #[test]
 fn m3() {
     let ran = events(&second(1_820, 10));
-    assert_eq!((ran.of(2).outcome, ran.of(2).wait), (2, 1_820));
+    assert_eq!((ran.of(2).outcome, ran.of(2).plugin, ran.of(2).wait, ran.used()), (1, Some(2_020), 1_820, 6));
 }
 
 #[test]

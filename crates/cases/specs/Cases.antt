@@ -151,8 +151,8 @@ worked =
     run events 10 (plan bay) gives ended 3 (firstCar ∷ []) ∷
     -- M2 by events, a second car at 200: wait 1,800 reneges at 2,000, handled 5
     run events 10 (plan (secondCar 1800 10)) gives ended 5 (firstCar ∷ reneged 1 200 2000 ∷ []) ∷
-    -- M3 wait 1,820 reneges at 2,020
-    run events 10 (plan (secondCar 1820 10)) gives ended 5 (firstCar ∷ reneged 1 200 2020 ∷ []) ∷
+    -- M3 wait 1,820 plugs at 2,020, handled 6 (request 4)
+    run events 10 (plan (secondCar 1820 10)) gives ended 6 (firstCar ∷ charged 1 2020 3940 1820 halfHour (seconds 120) ∷ []) ∷
     -- M4 wait 1,821 plugs at 2,020, unplugs 3,940, handled 6
     run events 10 (plan (secondCar 1821 10)) gives ended 6 (firstCar ∷ charged 1 2020 3940 1820 halfHour (seconds 120) ∷ []) ∷
     -- M5 its queue limit 0: balks, handled 5

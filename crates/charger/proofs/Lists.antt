@@ -61,6 +61,18 @@ module _ {A : Type 0} where
       go true e m = rw (h x e) (omega arith)
       go false e m = omega arith
 
+  pub count-none : {test : A → Bool} {l : List A} → All (λ x. test x ≡ false) l → count test l ≡ 0
+  count-none none = refl
+  count-none (also h hs) = rw h (omega (arith, count-none hs))
+
+  pub none-counted : (test : A → Bool) (l : List A) → count test l ≡ 0 → All (λ x. test x ≡ false) l
+  none-counted test [] h = none
+  none-counted test (x ∷ l) h = also (go (test x) (omega arith)) (none-counted test l (omega arith))
+    where
+      go : (b : Bool) → tick b ≡ 0 → b ≡ false
+      go true h = absurd (omega arith)
+      go false h = refl
+
   pub count-every : (l : List A) → count (λ (x : A). true) l ≡ length l
   count-every [] = refl
   count-every (x ∷ l) = omega (arith, count-every l)

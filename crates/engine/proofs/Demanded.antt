@@ -16,7 +16,7 @@ use Rattle.engine.specs.Timestep as T
 use Rattle.engine.specs.Demand.{Kept, byEvents, bySteps, FreeKnown, Demand, EventDemand, StepDemand}
 use Rattle.engine.proofs.site.Laws.{Settled}
 use Rattle.engine.proofs.discrete.EventLaws as E
-use Rattle.engine.proofs.events.Order.{none-queued}
+use Rattle.engine.proofs.discrete.NoneQueued.{none-queued}
 use Rattle.engine.proofs.timestep.RunMoves as R
 use Rattle.engine.proofs.timestep.Units as N
 use Rattle.engine.proofs.discrete.LastCar.{free-by-events}

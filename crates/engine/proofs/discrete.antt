@@ -1,6 +1,8 @@
 pub mod Stepped
 pub mod EventLaws
 pub mod Busy
+pub mod InOrder
+pub mod NoneQueued
 pub mod LastCar
 pub mod Rated
 pub mod EventStates

@@ -32,9 +32,10 @@ ghost use Rattle.curve.specs.F64.{ceiling};
 ghost use Rattle.charger.specs.Lists.{tick, All};
 ghost use Rattle.charger.specs.Code.Vehicles.{listed};
 ghost use Rattle.engine.specs.Plan.{stayOf};
+ghost use Rattle.engine.specs.Events.{Ordered};
 ghost use Rattle.engine.specs.Discrete.{sessionOf, chargedSession, run};
 ghost use Rattle.engine.specs.Demand.{isArrival};
-ghost use Rattle.engine.specs.Code.Simulation.{planOf, eventState, model, InTime, Sound, effectOf, Effected};
+ghost use Rattle.engine.specs.Code.Simulation.{pending, planOf, eventState, model, InTime, Sound, effectOf, Effected};
 
 // Who stands at each charger, beside the rest of the site's state: 0 for nobody, else one more than the vehicle's place in
 // the plan. The events handled are those before the queue's head.
@@ -269,6 +270,7 @@ pub fn run(
     requires { ⌜ ((site .vehicles .len ≤ 64) × (site .count ≤ 32)) × All InTime (listed (site .vehicles)) ⌝ }
     ensures same { λ r. ⌜ model (site .count) r ≡ run (planOf site rows (now (curves .entry)) (now (lens .entry))) allowance ⌝ }
     ensures sound { λ r. ⌜ Sound (r .simulation) ⌝ }
+    ensures order { λ r. ⌜ Ordered (pending (r .simulation .events)) ⌝ }
 {
     let vehicles = site.vehicles;
     let start = Simulation::new(vehicles);

@@ -1,4 +1,4 @@
-// Events and their order (events.rs).
+// Events and their order (events.rs), which is request 4's.
 use charger::vehicle_list::VehicleList;
 ghost use mathlib.Core.Path.{_≡_};
 ghost use mathlib.Core.List.{[], _∷_};
@@ -6,7 +6,7 @@ ghost use Prim.Native.Nat.{_+_, _≤_, _<_};
 ghost use lib.ListN.{length, take};
 ghost use Rattle.charger.specs.Lists.{All};
 ghost use Rattle.charger.specs.Code.Vehicles.{listed};
-ghost use Rattle.engine.specs.Events.{before, push, Sorted, generate};
+ghost use Rattle.engine.specs.Events.{rank, placeOf, before, push, Ordered, generate};
 ghost use Rattle.engine.specs.Code.Simulation.{pending, behindFirst, eventOf, eventsOf, InTime};
 
 pub enum EventType {
@@ -31,11 +31,43 @@ pub struct EventQueue {
     pub tail: usize,
 }
 
-// Whether `a`, pushed later than `b`, still pops before it.
+// Where its kind stands among the events of one second.
+fn rank(e: Event) -> u64
+    ensures { λ r. ⌜ r ≡ rank (e .kind) ⌝ }
+{
+    let kind = e.kind;
+    match kind {
+        EventType::Unplug => 0,
+        EventType::Arrival => 1,
+        EventType::Renege => 2,
+    }
+}
+
+// Its place among those of its kind.
+fn place_in_plan(e: Event) -> usize
+    ensures { λ r. ⌜ r ≡ placeOf e ⌝ }
+{
+    let kind = e.kind;
+    match kind {
+        EventType::Unplug => e.charger,
+        EventType::Arrival => e.vehicle,
+        EventType::Renege => e.vehicle,
+    }
+}
+
+// Whether `a` pops before `b`.
 fn pops_before(a: Event, b: Event) -> bool
     ensures { λ r. ⌜ r ≡ before a b ⌝ }
 {
-    a.time < b.time
+    if a.time != b.time {
+        return a.time < b.time;
+    }
+    let i = rank(a);
+    let j = rank(b);
+    if i != j {
+        return i < j;
+    }
+    place_in_plan(a) < place_in_plan(b)
 }
 
 impl EventQueue {
@@ -77,7 +109,7 @@ impl EventQueue {
 
 // Puts a row into the first n rows, which stand in order, behind those that it does not pop before.
 fn insert(rows: &mut [[u64; 3]], n: usize, row: [u64; 3])
-    requires { ⌜ (n < length (now rows)) × Sorted (eventsOf (take n (now rows))) ⌝ }
+    requires { ⌜ (n < length (now rows)) × Ordered (eventsOf (take n (now rows))) ⌝ }
     ensures { λ _. ⌜ eventsOf (take (n + 1) (now (rows .exit))) ≡ push (eventOf row) (eventsOf (take n (now (rows .entry)))) ⌝ }
 {
     let event = event_of(row);

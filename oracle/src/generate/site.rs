@@ -15,6 +15,8 @@ pub enum Soc {
     Plain,
     AtPoints,
     Subnormal,
+    /// Mostly as much at the start as at the target: nothing to charge.
+    Reached,
 }
 
 #[derive(Clone, Copy, PartialEq)]
@@ -22,6 +24,7 @@ pub enum Idle {
     Any,
     Small,
     Fractional,
+    Mostly0,
 }
 
 #[derive(Clone, Copy)]
@@ -54,6 +57,9 @@ pub const FEW: Style = Style {
 pub const CONTENTION: Style = Style { profiles: [1, 3], chargers: [1, 3], vehicles: [3, 14], ..FEW };
 pub const TIES: Style =
     Style { chargers: [1, 3], vehicles: [2, 9], clock: Clock::Tight, idle: Idle::Small, whole: true, ..FEW };
+/// Many events in one second, unplugs of several chargers among them.
+pub const NO_LENGTH: Style =
+    Style { chargers: [1, 4], vehicles: [3, 14], soc: Soc::Reached, idle: Idle::Mostly0, ..TIES };
 pub const MANY: Style = Style {
     profiles: [1, 16],
     points: [1, 30],
@@ -211,6 +217,7 @@ fn soc(draw: &mut Draw, style: Style, curve: &[(f64, f64)]) -> f64 {
 
 fn idle(draw: &mut Draw, style: Style) -> f64 {
     match style.idle {
+        Idle::Mostly0 => draw.pick(&[0.0, 0.0, 0.0, 1.0]),
         Idle::Small => draw.pick(&[0.0, 0.0, 1.0, 2.0, 3.0, 0.5]),
         Idle::Fractional => match draw.below(4) {
             0 => draw.pick(&[5e-324, 1e-300, 0.5, 1.5, 2.25, 0.999_999, 1.0_f64.next_up(), 2.0_f64.next_down()]),
@@ -238,7 +245,8 @@ fn times(draw: &mut Draw, clock: Clock) -> [u64; 2] {
 }
 
 fn car(draw: &mut Draw, style: Style, id: u32, profile: u32, curve: &[(f64, f64)]) -> Car {
-    let [one, other] = [soc(draw, style, curve), soc(draw, style, curve)];
+    let one = soc(draw, style, curve);
+    let other = if style.soc == Soc::Reached && !draw.one_in(4) { one } else { soc(draw, style, curve) };
     let rising = !draw.one_in(8);
     let [arrival, wait] = times(draw, style.clock);
     let waiting = draw.pick(&[0, 0, 1, 2, 3, 10, u32::MAX]);

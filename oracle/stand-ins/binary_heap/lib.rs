@@ -1,101 +1,106 @@
-//! Stand-in for `std::collections::BinaryHeap`: the greatest item pops, equal ones in the order pushed.
-//! The original's `Event` orders itself by falling time, so the event of least time pops.
+//! Stand-in for `std::collections::BinaryHeap`, with the order of request 4: the least time pops, and at equal times unplugs
+//! come first, by charger place; then arrivals, then reneges, each by vehicle place.
 use std::cmp::Ordering;
 
-#[derive(Debug)]
-struct Entry<T> {
-    item: T,
-    turn: u64,
+#[derive(Debug, Clone, Copy, PartialEq, Eq, PartialOrd, Ord)]
+pub enum Kind {
+    Unplug,
+    Arrival,
+    Renege,
 }
 
-impl<T: Ord> Ord for Entry<T> {
+/// Which turn an event has: its time, its kind and its place.
+pub trait InTurn {
+    fn turn(&self) -> (u64, Kind, usize);
+}
+
+#[derive(Debug)]
+struct Entry<T>(T);
+
+impl<T: InTurn> Ord for Entry<T> {
     fn cmp(&self, other: &Self) -> Ordering {
-        self.item.cmp(&other.item).then(other.turn.cmp(&self.turn))
+        self.0.turn().cmp(&other.0.turn()).reverse()
     }
 }
 
-impl<T: Ord> PartialOrd for Entry<T> {
+impl<T: InTurn> PartialOrd for Entry<T> {
     fn partial_cmp(&self, other: &Self) -> Option<Ordering> {
         Some(self.cmp(other))
     }
 }
 
-impl<T: Ord> PartialEq for Entry<T> {
+impl<T: InTurn> PartialEq for Entry<T> {
     fn eq(&self, other: &Self) -> bool {
         self.cmp(other) == Ordering::Equal
     }
 }
 
-impl<T: Ord> Eq for Entry<T> {}
+impl<T: InTurn> Eq for Entry<T> {}
 
 #[derive(Debug)]
-pub struct BinaryHeap<T> {
-    entries: std::collections::BinaryHeap<Entry<T>>,
-    pushed: u64,
-}
+pub struct BinaryHeap<T>(std::collections::BinaryHeap<Entry<T>>);
 
-impl<T: Ord> BinaryHeap<T> {
+impl<T: InTurn> BinaryHeap<T> {
     #[allow(clippy::new_without_default)]
     pub fn new() -> Self {
-        Self { entries: std::collections::BinaryHeap::new(), pushed: 0 }
+        Self(std::collections::BinaryHeap::new())
     }
 
     pub fn push(&mut self, item: T) {
-        self.entries.push(Entry { item, turn: self.pushed });
-        self.pushed += 1;
+        self.0.push(Entry(item));
     }
 
     pub fn pop(&mut self) -> Option<T> {
-        self.entries.pop().map(|entry| entry.item)
+        self.0.pop().map(|entry| entry.0)
     }
 
     pub fn peek(&self) -> Option<&T> {
-        self.entries.peek().map(|entry| &entry.item)
+        self.0.peek().map(|entry| &entry.0)
     }
 
     pub fn is_empty(&self) -> bool {
-        self.entries.is_empty()
+        self.0.is_empty()
     }
 
     /// All items in no particular order.
     pub fn iter(&self) -> impl Iterator<Item = &T> {
-        self.entries.iter().map(|entry| &entry.item)
+        self.0.iter().map(|entry| &entry.0)
     }
 }
 
 #[cfg(test)]
 mod tests {
-    use super::BinaryHeap;
-    use std::cmp::Ordering;
+    use super::{BinaryHeap, InTurn, Kind};
 
-    #[derive(Debug, PartialEq, Eq)]
-    struct Timed(u64, char);
+    struct Event(u64, Kind, usize);
 
-    impl Ord for Timed {
-        fn cmp(&self, other: &Self) -> Ordering {
-            other.0.cmp(&self.0)
-        }
-    }
-
-    impl PartialOrd for Timed {
-        fn partial_cmp(&self, other: &Self) -> Option<Ordering> {
-            Some(self.cmp(other))
+    impl InTurn for Event {
+        fn turn(&self) -> (u64, Kind, usize) {
+            (self.0, self.1, self.2)
         }
     }
 
     #[test]
-    fn equal_times_pop_in_the_order_pushed() {
-        let mut heap = BinaryHeap::new();
-        for (time, name) in [(5, 'a'), (3, 'b'), (5, 'c'), (3, 'd'), (5, 'e'), (3, 'f'), (5, 'g')] {
-            heap.push(Timed(time, name));
-        }
-        let mut popped = String::new();
-        while let Some(Timed(_, name)) = heap.pop() {
-            popped.push(name);
-            if name == 'd' {
-                heap.push(Timed(3, 'h'));
+    fn time_then_kind_then_place() {
+        use Kind::{Arrival, Renege, Unplug};
+        let order = [
+            (3, Unplug, 1),
+            (3, Unplug, 2),
+            (3, Arrival, 0),
+            (3, Arrival, 7),
+            (3, Renege, 0),
+            (3, Renege, 7),
+            (5, Unplug, 0),
+            (5, Arrival, 4),
+        ];
+        for first in 0..order.len() {
+            let mut heap = BinaryHeap::new();
+            for k in 0..order.len() {
+                let (time, kind, place) = order[(first + 3 * k) % order.len()];
+                heap.push(Event(time, kind, place));
             }
+            let popped: Vec<_> = std::iter::from_fn(|| heap.pop()).map(|event| event.turn()).collect();
+            assert_eq!(popped, order);
         }
-        assert_eq!(popped, "bdfhaceg");
     }
 }

@@ -22,15 +22,12 @@ use Rattle.engine.specs.Demand.{arrives, yetToArrive, sessionsWith, Kept
 use Rattle.engine.proofs.site.Moves.{Moves, none as still, moves-trans, pops}
 use Rattle.engine.proofs.site.Laws as L
 use Rattle.engine.proofs.site.Laws.{Lawful, Settled, spotsIn, count-push}
+use Rattle.engine.proofs.events.Order.{all-push}
 use Rattle.engine.proofs.discrete.Stepped.{Stepped, stepped, ended, charges, balks, waits, frees, passes, reneges, misses}
 
 pub length-push : (e : Event) (l : List Event) → length (push e l) ≡ suc (length l)
 length-push e [] = refl
 length-push e (x ∷ xs) = by-cond (λ (l : List Event). length l ≡ suc (suc (length xs))) (before e x) refl (ap suc (length-push e xs))
-
-pub all-push : {P : Event → Type 0} (e : Event) {l : List Event} → P e → All P l → All P (push e l)
-all-push e h none = also h none
-all-push {P} e h (also {x = x} {xs = xs} k ks) = by-cond (All P) (before e x) (also h (also k ks)) (also k (all-push e h ks))
 
 empty : (l : List Event) → length l ≡ 0 → l ≡ []
 empty [] h = refl

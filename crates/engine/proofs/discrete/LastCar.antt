@@ -8,7 +8,7 @@ use borrow.Author.Tests.{eqb-true, eq-eqb}
 use lib.Dec.{eqb}
 use lib.ListN.{length}
 use Rattle.charger.specs.Lists.{tick, count, All, none, also}
-use Rattle.charger.proofs.Lists.{all-map, all-tail, by-test}
+use Rattle.charger.proofs.Lists.{all-map, all-tail, by-test, count-none, none-counted}
 use Rattle.engine.specs.declared.events.Event.{Event}
 use Rattle.engine.specs.declared.events.EventType.the-variants.{Arrival, Unplug}
 use Rattle.engine.specs.declared.session.Session.{Session}
@@ -19,9 +19,9 @@ use Rattle.engine.specs.Discrete.{State, events, chargedSession, run}
 use Rattle.engine.specs.Demand.{unplugs, hasCharger, pluggedAt, LastCar, nobody, lastCar, lastAt, unplugOf, freeByEvents}
 use Rattle.engine.proofs.discrete.Stepped.{Stepped, stepped, ended, charges, balks, waits, frees, passes, reneges, misses}
 use Rattle.engine.proofs.site.Laws.{length-places}
-use Rattle.engine.proofs.discrete.EventLaws.{all-push, run-moves, every-run}
+use Rattle.engine.proofs.discrete.EventLaws.{run-moves, every-run}
 use Rattle.engine.proofs.discrete.Busy.{takenAt, flagged, free-at, available-flag, tick-le, popped, no-unplug}
-use Rattle.engine.proofs.events.Order.{count-none}
+use Rattle.engine.proofs.events.Order.{all-push}
 use Rattle.power.proofs.charger_state.Vacant.{and-right}
 use Rattle.engine.proofs.timestep.Held.{not-both}
 
@@ -52,14 +52,6 @@ abbrev Its : ℕ → LastCar → List Event → Type 0
 Its c w es = All (λ e. unplugs c e ≡ true → isVehicle w (e .vehicle) ≡ true) es
 
 -- ---- counting
-
-none-counted : {A : Type 0} (test : A → Bool) (xs : List A) → count test xs ≡ 0 → All (λ x. test x ≡ false) xs
-none-counted test [] h = none
-none-counted test (x ∷ xs) h = also (go (test x) (omega arith)) (none-counted test xs (omega arith))
-  where
-    go : (b : Bool) → tick b ≡ 0 → b ≡ false
-    go true h = absurd (omega arith)
-    go false h = refl
 
 count-same : {A : Type 0} (test other : A → Bool) {xs : List A} → All (λ x. test x ≡ other x) xs → count test xs ≡ count other xs
 count-same test other none = refl

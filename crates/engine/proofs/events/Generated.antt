@@ -16,8 +16,8 @@ use Rattle.charger.proofs.Lists.{all-at}
 use Rattle.charger.proofs.waiting_queue.Part.{getD-any, part-next}
 use Rattle.engine.specs.declared.events.Event.{Event}
 use Rattle.engine.specs.Code.Simulation.{eventsOf, InTime}
-use Rattle.engine.specs.Events.{arrival, renege, push, Sorted, generate}
-use Rattle.engine.proofs.events.Order.{sorted-push}
+use Rattle.engine.specs.Events.{arrival, renege, push, generate}
+use Rattle.engine.proofs.events.Order.{Upto, upto-next}
 
 module _ (all : List Vehicle) (n v : ℕ) (d : Vehicle) (h : v < n) (k : v < length all) where
   -- the vehicle that the array has at v is the plan's
@@ -41,8 +41,8 @@ generate-next all n v x l h k e = rw (e, getD-take n all v _ h, part-next all v 
 pub generate-rows : (all : List Vehicle) (n v : ℕ) (x : Vehicle) (rows first both : List (List ℕ)) → v < n → v < length all → x ≡ vehicleAt (take n all) v
     → eventsOf (take (2 * v + 1) first) ≡ push (arrival (x .arrival) v) (eventsOf (take (2 * v) rows))
     → eventsOf (take (2 * v + 1 + 1) both) ≡ push (renege (x .arrival + x .wait) v) (eventsOf (take (2 * v + 1) first))
-    → (Sorted (eventsOf (take (2 * v) rows)) → Sorted (eventsOf (take (2 * (v + 1)) both)))
+    → (Upto v (eventsOf (take (2 * v) rows)) → Upto (v + 1) (eventsOf (take (2 * (v + 1)) both)))
     × (generate (v + 1) (part (v + 1) n all) (eventsOf (take (2 * (v + 1)) both)) ≡ generate v (part v n all) (eventsOf (take (2 * v) rows)))
 generate-rows all n v x rows first both h k e a r =
     let two : 2 * (v + 1) ≡ 2 * v + 1 + 1 = omega arith in
-    (λ s. rw (two, r, a) (sorted-push _ (sorted-push _ s)), rw (two, r, a) (sym (generate-next all n v x _ h k e)))
+    (λ s. rw (two, r, a, add-one v) (upto-next v (x .arrival) (x .arrival + x .wait) s), rw (two, r, a) (sym (generate-next all n v x _ h k e)))

@@ -1,6 +1,6 @@
 -- Pending events as rows: a row put among those that stand in order, from the back, and rows turned into events.
 use mathlib.Core.Path.{_≡_, refl, sym, ap, _∙_}
-use mathlib.Core.Bool.{Bool, true, false, cond}
+use mathlib.Core.Bool.{Bool, true, false, cond, true≢false}
 use mathlib.Core.List.{List, [], _∷_, _++_, map-append}
 use Prim.Native.Nat.{ℕ, zero, suc, _+_, _-_, _≤_, _<_}
 use native.Mathlib.Numerals.{add-one}
@@ -11,9 +11,9 @@ use Rattle.charger.specs.Code.Queue.{part, seek}
 use Rattle.charger.proofs.Lists.{by-cond, all-at}
 use Rattle.charger.proofs.waiting_queue.Part.{seek-le, Opening, opening-set}
 use Rattle.engine.specs.declared.events.Event.{Event}
-use Rattle.engine.specs.Events.{before, push, Sorted, empty, least}
+use Rattle.engine.specs.Events.{before, push, Ordered, empty, least}
 use Rattle.engine.specs.Code.Simulation.{eventOf, eventsOf}
-use Rattle.engine.proofs.events.Before.{not-before}
+use Rattle.engine.proofs.events.Before.{before-trans}
 
 -- what passes does not stand before the first that does
 seek-most : {A : Type 0} (test : A → Bool) (l : List A) (i : ℕ) (d : A) → i < length l → test (getD l i d) ≡ true → seek test l ≤ i
@@ -22,11 +22,16 @@ seek-most test (x ∷ l) zero d h t = rw t (omega arith)
 seek-most test (x ∷ l) (suc i) d h t = by-cond (λ (n : ℕ). n ≤ suc i) (test x) (omega arith) (omega (arith, seek-most test l i d (omega arith) t))
 
 -- an event that does not pop before one pops before none ahead of that
-seek-past : (e : Event) {l : List Event} → Sorted l → (i : ℕ) (d : Event) → i < length l → before e (getD l i d) ≡ false → i < seek (before e) l
+seek-past : (e : Event) {l : List Event} → Ordered l → (i : ℕ) (d : Event) → i < length l → before e (getD l i d) ≡ false → i < seek (before e) l
 seek-past e empty i d h t = absurd (omega arith)
 seek-past e (least a s) zero d h t = rw t (omega arith)
 seek-past e (least {e = x} {l = l} a s) (suc i) d h t =
-    rw (not-before e x (getD l i d) (all-at l i d (omega arith) a) t) (omega (arith, seek-past e s i d (omega arith) t))
+    rw (not-ahead (before e x) refl) (omega (arith, seek-past e s i d (omega arith) t))
+  where
+    -- else it would pop before that one too
+    not-ahead : (b : Bool) → before e x ≡ b → before e x ≡ false
+    not-ahead true k = absurd (true≢false (sym (before-trans e x (getD l i d) k (all-at l i d (omega arith) a)) ∙ t))
+    not-ahead false k = k
 
 -- a push among the events of rows
 push-rows : (row : List ℕ) (rows : List (List ℕ)) → let k = seek (before (eventOf row)) (eventsOf rows) in
@@ -74,7 +79,7 @@ module _ (l : List (List ℕ)) (n : ℕ) (row : List ℕ) (room : n ≤ length l
     place-below h = seek-most (before (eventOf row)) (eventsOf (take n l)) (j - 1) (eventOf []) (omega (arith, many)) (ap (before (eventOf row)) at-place ∙ h)
 
     -- it does not
-    pub place-above : Sorted (eventsOf (take n l)) → before (eventOf row) (eventOf (getD a (j - 1) [])) ≡ false → j ≤ place l n row
+    pub place-above : Ordered (eventsOf (take n l)) → before (eventOf row) (eventOf (getD a (j - 1) [])) ≡ false → j ≤ place l n row
     place-above s h =
         let past = seek-past (eventOf row) s (j - 1) (eventOf []) (omega (arith, many)) (ap (before (eventOf row)) at-place ∙ h) in
         omega arith

@@ -20,7 +20,7 @@ use Rattle.engine.specs.declared.session.Session.{Session}
 use Rattle.engine.specs.declared.session.Outcome.{Outcome}
 use Rattle.engine.specs.declared.session.Outcome.the-variants.{Open}
 use Rattle.engine.specs.Plan.{Plan, vehicle, fits, stay}
-use Rattle.engine.specs.Events.{arrival, unplug, push, Sorted, least, generate}
+use Rattle.engine.specs.Events.{arrival, unplug, push, Ordered, least, generate}
 use Rattle.power.specs.declared.charger_state.ChargerState.{ChargerState}
 use Rattle.power.specs.ChargerState.{isFinished}
 use Rattle.engine.specs.SiteState.{SiteState, initial, below, startCharging, uncharged, balks as balksAt, withPending, turnedAway, available, arrived, reneged, passedOn, release, handle, popped}
@@ -29,11 +29,12 @@ use Rattle.engine.specs.Timestep.{steps, openSession, finalized, closed,
 use Rattle.engine.specs.Timestep as T
 use Rattle.engine.specs.Demand.{WaitedBy, Waited}
 use Rattle.engine.proofs.discrete.Stepped.{Stepped, stepped, ended, charges, balks, waits, frees, passes, reneges, misses}
-use Rattle.engine.proofs.discrete.EventLaws.{all-push, every-run}
+use Rattle.engine.proofs.discrete.EventLaws.{every-run}
 use Rattle.engine.proofs.timestep.Held.{missing, Holds, HeldFrom, close, held-tail, held-head, held-close, from-start, held-charged}
 use Rattle.engine.proofs.timestep.RunMoves.{Keeps, run-keeps}
-use Rattle.engine.proofs.events.Before.{not-earlier}
-use Rattle.engine.proofs.events.Order.{sorted}
+use Rattle.engine.proofs.events.Before.{not-later}
+use Rattle.engine.proofs.events.Order.{all-push}
+use Rattle.engine.proofs.discrete.InOrder.{ordered}
 
 -- ---- the times of events are the plan's; `Other` is what is known of an unplug
 
@@ -81,7 +82,7 @@ module _ (p : Plan) where
   all-later : (s : State) {e : Event} {es : List Event} → s .site .pending ≡ e ∷ es → All (InTime p (s .site .pending)) (s .site .queue) → All (InTime p es) (s .site .queue)
   all-later s l h = all-map (λ v k. all-tail (rw l at k)) h
 
-  kept-stepped : (s : State) {t : State} → Stepped p s t → Sorted (s .site .pending) → Kept p s → Kept p t
+  kept-stepped : (s : State) {t : State} → Stepped p s t → Ordered (s .site .pending) → Kept p s → Kept p t
   unfolding startCharging chargedSession uncharged
   kept-stepped s (ended l) o k = k
   kept-stepped s (charges e es c l h a) o k =
@@ -105,8 +106,8 @@ module _ (p : Plan) where
         waited = k .waited;
       }
     where
-      behind-first : {e : Event} {es : List Event} {a : ℕ} → Sorted (e ∷ es) → e .time ≡ a → All (λ x. a ≤ x .time) es
-      behind-first {e} (least b s) n = all-map (λ x h. omega (arith, not-earlier x e h)) b
+      behind-first : {e : Event} {es : List Event} {a : ℕ} → Ordered (e ∷ es) → e .time ≡ a → All (λ x. a ≤ x .time) es
+      behind-first {e} (least b s) n = all-map (λ x h. omega (arith, not-later e x h)) b
   kept-stepped s (frees e es l h) o k = record { dated = all-tail (rw l at (k .dated)); queued = all-later s l (k .queued); waited = k .waited }
   kept-stepped s (passes e es q v r l h x a) o k =
       let there : All (InTime p (s .site .pending)) (q ++ (v ∷ r)) = rw x at (k .queued) in
@@ -129,7 +130,7 @@ module _ (p : Plan) where
   pub waited-by-events : (n : ℕ) → All (Waited p) (run p n .site .sessions)
   waited-by-events n =
       every-run p (Kept p) (record { dated = dated-start p Unit; queued = none; waited = none })
-      (λ n k. kept-stepped (run p n) (stepped p (run p n)) (sorted p n) k)
+      (λ n k. kept-stepped (run p n) (stepped p (run p n)) (ordered p n) k)
       n
       .waited
 

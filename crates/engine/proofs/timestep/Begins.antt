@@ -22,7 +22,7 @@ use Rattle.engine.specs.Code.Steps.{RoomFor}
 use Rattle.engine.proofs.site.Moves as M
 use Rattle.engine.proofs.site.Laws as L
 use Rattle.engine.proofs.timestep.RunMoves.{lawful}
-use Rattle.engine.proofs.discrete.EventLaws.{all-push}
+use Rattle.engine.proofs.events.Order.{all-push}
 
 -- ---- a cleared bank
 

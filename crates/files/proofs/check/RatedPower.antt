@@ -1,6 +1,6 @@
 -- A pair that fits is one of the plan, and its rated power is above 0 where the charger is within its limits. Assumes nothing.
 use mathlib.Core.Path.{_≡_, refl, sym, ap, _∙_}
-use mathlib.Core.Bool.{Bool, true, false, _&&_, false≢true, and-false}
+use mathlib.Core.Bool.{Bool, true, false, false≢true, and-false}
 use mathlib.Core.List.{List, [], _∷_}
 use Prim.Native.Nat.{ℕ, zero, suc, _-_, _*_, _<_}
 use native.Mathlib.Nat.{mul-pos, zero-mul}

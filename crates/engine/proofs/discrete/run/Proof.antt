@@ -1,6 +1,6 @@
 -- `engine::discrete::run` meets its contract. The loop's invariant: after i turns the state is the model's after i events. What an event asks follows from the
 -- laws of a run. Assumes nothing.
-use mathlib.Core.Path.{_≡_, refl, sym, ap, _∙_}
+use mathlib.Core.Path.{_≡_, refl, sym, ap, subst, _∙_}
 use mathlib.Core.List.{_∷_}
 use Prim.Native.Nat.{ℕ, _+_, _-_, _≤_, _<_}
 use borrow.Author.Needs.{needs}
@@ -13,13 +13,14 @@ use Rattle.charger.proofs.waiting_queue.Part.{part-next, part-end, take-set, le
 use Rattle.engine.specs.declared.discrete.State.{State}
 use Rattle.engine.specs.declared.events.Event.{Event}
 use Rattle.engine.specs.Plan.{Plan}
-use Rattle.engine.specs.Events.{arrival}
+use Rattle.engine.specs.Events.{arrival, Ordered}
 use Rattle.engine.specs.SiteState.{SiteState}
 use Rattle.engine.specs.Discrete as D
 use Rattle.engine.specs.Discrete.{Occupant, run, step}
 use Rattle.engine.specs.Code.Simulation.{pending, behindFirst, poppedFirst, requeued, planOf, eventState, siteState, occupants, model, adds, done, Sound, Ready}
 use Rattle.engine.proofs.discrete.EventLaws.{stopped, run-step}
 use Rattle.engine.proofs.discrete.EventStates.{begins, in-time, room-events, room-sessions, stood, stepped, nothing, wrote, plugged}
+use Rattle.engine.proofs.discrete.InOrder.{ordered}
 use Rattle.engine.proofs.discrete.Ready.{Whole, ready}
 use Rattle.engine.proofs.discrete.run.Statement.{statement}
 use Rattle.engine.proofs.discrete.run.Tie as tie
@@ -111,6 +112,11 @@ loop-holds c =
 state-of-requires : tie.Need-state-of-requires Inv-loop μ-loop
 state-of-requires c κs = search needs
 
+-- the pending events stand in order, as the model's do
+in-order : (l : tie.At-loop Inv-loop μ-loop) → Ordered (pending (l .loop .events))
+in-order l =
+    subst (λ (m : D.State). Ordered (m .site .pending)) (sym (l .loop .inv .3)) (ordered (planned (start-of l)) (l .loop .i))
+
 returns : tie.Need-returns Inv-loop μ-loop
 returns c =
     let l = c .before .before .before in
@@ -121,7 +127,7 @@ returns c =
           ∙ sym
           (stopped (planned s) (l .loop .i) (s .args .allowance) (l .loop .inv .0)
           (ap (λ (m : D.State). m .site .pending) (sym (l .loop .inv .3)) ∙ part-end (e .all) (e .head) (e .tail) (c .before .if1 .taken))),
-      l .loop .inv .1,
+      (l .loop .inv .1, in-order l),
     )
 
 mul-e : tie.Need-mul-e Inv-loop μ-loop
@@ -284,7 +290,7 @@ returns-2 c =
     let l = c .before .before in
     let s = start-of l in
     let all : l .loop .i ≡ s .args .allowance = omega arith in
-    rw (c .state-of2 .ensures) (l .loop .inv .3 ∙ ap (run (planned s)) all, l .loop .inv .1)
+    rw (c .state-of2 .ensures) (l .loop .inv .3 ∙ ap (run (planned s)) all, (l .loop .inv .1, in-order l))
 
 pub run-spec : {M : Type 1} → statement M
 run-spec =

@@ -6,25 +6,26 @@ use Prim.Native.Nat.{_*_, _-_, _≤_}
 use borrow.Author.Needs.{needs}
 use native.Mathlib.Omega.{arith}
 use lib.ListN.{length, take}
+use Rattle.charger.specs.Lists.{none}
 use Rattle.charger.specs.Code.Queue.{part}
 use Rattle.charger.proofs.waiting_queue.Part.{part-end, length-mapped}
-use Rattle.engine.specs.Events.{Sorted, empty, generate}
+use Rattle.engine.specs.Events.{empty, generate}
 use Rattle.engine.specs.Code.Simulation.{eventsOf}
 use Rattle.engine.proofs.events.Generated.{listed-at, until-fits, generate-rows}
-use Rattle.engine.proofs.events.Order.{sorted-push}
+use Rattle.engine.proofs.events.Order.{Upto, upto-arrival}
 use Rattle.engine.proofs.events.generate_arrival_events.Statement.{statement}
 use Rattle.engine.proofs.events.generate_arrival_events.Tie as tie
 
 abbrev Inv-loop : tie.InvT-loop
 Inv-loop vehicles rows₀ n v₀ rows v =
-    (length (vehicles .all) ≡ 64) × (v ≤ n) × (n ≤ 64) × (length rows ≡ 128) × Sorted (eventsOf (take (2 * v) rows))
+    (length (vehicles .all) ≡ 64) × (v ≤ n) × (n ≤ 64) × (length rows ≡ 128) × Upto v (eventsOf (take (2 * v) rows))
     × (generate v (part v n (vehicles .all)) (eventsOf (take (2 * v) rows)) ≡ generate 0 (take n (vehicles .all)) [])
 
 abbrev μ-loop : tie.MeasureT-loop
 μ-loop vehicles rows₀ n v₀ rows v = n - v
 
 loop-holds : tie.Need-loop-holds Inv-loop μ-loop
-loop-holds c = (search (needs, length-mapped), search needs, search needs, refl, empty, refl)
+loop-holds c = (search (needs, length-mapped), search needs, search needs, refl, (empty, none), refl)
 
 mul-x : tie.Need-mul-x Inv-loop μ-loop
 mul-x c = search needs
@@ -39,7 +40,7 @@ mul-insert : tie.Need-mul-insert Inv-loop μ-loop
 mul-insert c = omega arith
 
 insert-requires : tie.Need-insert-requires Inv-loop μ-loop
-insert-requires c κs = let l = c .before .before .before .loop in (omega arith, l .inv .4)
+insert-requires c κs = let l = c .before .before .before .loop in (omega arith, l .inv .4 .0)
 
 slice-aggregate-insert-2 : tie.Need-slice-aggregate-insert-2 Inv-loop μ-loop
 slice-aggregate-insert-2 c = search needs
@@ -60,7 +61,7 @@ insert-requires-2 : tie.Need-insert-requires-2 Inv-loop μ-loop
 insert-requires-2 c κs =
     let l = c .before .before .before .before .before .before .before .loop in
     let pushed = c .before .before .before .insert in
-    (omega arith, rw (pushed .ensures) (sorted-push _ (l .inv .4)))
+    (omega arith, rw (pushed .ensures) (upto-arrival (l .v) _ 0 (l .inv .4)))
 
 add-v : tie.Need-add-v Inv-loop μ-loop
 add-v c = omega arith

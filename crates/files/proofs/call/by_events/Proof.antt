@@ -21,7 +21,7 @@ returns c =
     let a = s .args in
     shows-events (planOf (a .site) (a .rows) (now (a .curves)) (now (a .lens))) (a .allowance) (a .site .count) state (c .count-up .result)
     (c .before .before .before .before .run .ensures .0)
-    (c .before .before .before .before .run .ensures .1)
+    (c .before .before .before .before .run .ensures .1 .0)
     (search (length-mapped, ok .0))
     (c .count-up .ensures)
 

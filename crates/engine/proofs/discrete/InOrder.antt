@@ -1,0 +1,100 @@
+-- In a run by events the pending events stand in order: no two are equal in time, kind and place, and what pops is the least.
+use mathlib.Core.Path.{_≡_, refl, ap, _∙_}
+use mathlib.Core.Bool.{Bool, true, false, _&&_}
+use mathlib.Core.List.{List, [], _∷_}
+use Prim.Native.Nat.{ℕ, zero, suc, _+_, _≤_, _<_}
+use native.Mathlib.Omega.{arith}
+use borrow.Author.Tests.{eqb-true, eq-eqb}
+use lib.Dec.{eqb}
+use lib.ListN.{length}
+use Rattle.charger.specs.Lists.{tick, count, All, none}
+use Rattle.charger.proofs.Lists.{all-map, none-counted}
+use Rattle.engine.specs.declared.events.Event.{Event}
+use Rattle.engine.specs.declared.events.EventType.{EventType}
+use Rattle.engine.specs.declared.events.EventType.the-variants.{Arrival, Renege, Unplug}
+use Rattle.engine.specs.Plan.{Plan, stay}
+use Rattle.engine.specs.Events.{unplug, rank, placeBy, Ordered, empty}
+use Rattle.engine.specs.SiteState.{startCharging}
+use Rattle.engine.specs.Discrete.{Occupant, State, run}
+use Rattle.engine.specs.Demand.{isUnplug, unplugs}
+use Rattle.engine.proofs.events.Before.{Apart}
+use Rattle.engine.proofs.events.Order.{ordered-push, ordered-tail, ordered-generate}
+use Rattle.engine.proofs.site.Laws.{count-push}
+use Rattle.engine.proofs.discrete.Stepped.{Stepped, stepped, ended, charges, balks, waits, frees, passes, reneges, misses}
+use Rattle.engine.proofs.discrete.EventLaws.{every-run}
+use Rattle.engine.proofs.discrete.Busy.{takenAt, Flagged, flagged, available-flag, popped, no-unplug}
+
+-- the unplug of a charger that has none pending is apart from the others
+unplug-apart : (t v c : ℕ) (es : List Event) → count (unplugs c) es ≡ 0 → All (Apart (unplug t v c)) es
+unplug-apart t v c es h = all-map (λ e k. go e (e .kind) k) (none-counted (unplugs c) es h)
+  where
+    go : (e : Event) (k : EventType) → (isUnplug k && eqb c (e .charger)) ≡ false → rank Unplug ≡ rank k → eqb c (placeBy k (e .vehicle) (e .charger)) ≡ false
+    go e Unplug h r = h
+    go e Arrival h r = absurd (omega arith)
+    go e Renege h r = absurd (omega arith)
+
+-- nobody stands at a charger that is there
+taken-past : (l : List Occupant) (c : ℕ) → tick (takenAt l c) ≡ 0 → c < length l
+taken-past [] c h = absurd (omega (arith, h))
+taken-past (o ∷ l) zero h = omega arith
+taken-past (o ∷ l) (suc c) h = omega (arith, taken-past l c h)
+
+-- in order, and at most one unplug pending at each charger
+pub record InOrder (s : State) : Type 0 where
+  pub ordered : Ordered (s .site .pending)
+  pub once : (c : ℕ) → count (unplugs c) (s .site .pending) ≤ 1
+
+one-more : (b : Bool) {n : ℕ} → n ≤ 1 → (b ≡ true → n ≡ 0) → tick b + n ≤ 1
+one-more true h k = omega (arith, k refl)
+one-more false h k = omega (arith, h)
+
+module _ (p : Plan) (s : State) (h : InOrder s) where
+  -- the charger that an arrival takes has no unplug pending
+  none-taken : (e : Event) (es : List Event) (c : ℕ) → s .site .pending ≡ e ∷ es → e .kind ≡ Arrival → tick (takenAt (s .site .places) c) ≡ 0 → Flagged s → count (unplugs c) es ≡ 0
+  none-taken e es c l k a f = omega (arith, popped p c s e es Arrival l k, f c (taken-past (s .site .places) c a), a)
+
+  -- nor the one that was just popped
+  none-passed : (e : Event) (es : List Event) → s .site .pending ≡ e ∷ es → e .kind ≡ Unplug → count (unplugs (e .charger)) es ≡ 0
+  none-passed e es l k =
+      omega (arith, popped p (e .charger) s e es Unplug l k, ap tick (eq-eqb (e .charger) (e .charger) refl), h .once (e .charger))
+
+  behind : {e : Event} {es : List Event} → s .site .pending ≡ e ∷ es → Ordered es
+  behind l = ordered-tail (rw l at (h .ordered))
+
+  fewer : (e : Event) (es : List Event) → s .site .pending ≡ e ∷ es → (c : ℕ) → count (unplugs c) es ≤ 1
+  fewer e es l c = omega (arith, popped p c s e es (e .kind) l refl, h .once c)
+
+  -- what a plug-in pushes
+  taken : (d : ℕ) (e : Event) (es : List Event) → s .site .pending ≡ e ∷ es → count (unplugs d) es ≡ 0 → (c : ℕ) → tick (eqb c d) + count (unplugs c) es ≤ 1
+  taken d e es l z c = one-more (eqb c d) (fewer e es l c) (λ b. ap (λ (n : ℕ). count (unplugs n) es) (eqb-true c d b) ∙ z)
+
+  pub stays : {t : State} → Stepped p s t → Flagged s → InOrder t
+  unfolding startCharging
+  stays (ended l) f = h
+  stays (charges e es c l k a) f =
+      let z = none-taken e es c l k (available-flag p (s .site) (e .vehicle) c a) f in
+      record {
+        ordered = ordered-push _ (unplug-apart (e .time + stay p (e .vehicle) c) (e .vehicle) c es z) (behind l);
+        once = λ d. rw (count-push (unplugs d) (unplug (e .time + stay p (e .vehicle) c) (e .vehicle) c) es) (taken c e es l z d);
+      }
+  stays (balks e es l k) f = record { ordered = behind l; once = fewer e es l }
+  stays (waits e es l k) f = record { ordered = behind l; once = fewer e es l }
+  stays (frees e es l k) f = record { ordered = behind l; once = fewer e es l }
+  stays (passes e es q v r l k x a) f =
+      let z = none-passed e es l k in
+      record {
+        ordered = ordered-push _ (unplug-apart (e .time + stay p v (e .charger)) v (e .charger) es z) (behind l);
+        once = λ d. rw (count-push (unplugs d) (unplug (e .time + stay p v (e .charger)) v (e .charger)) es) (taken (e .charger) e es l z d);
+      }
+  stays (reneges e es q v r l k x a) f = record { ordered = behind l; once = fewer e es l }
+  stays (misses e es l k a) f = record { ordered = behind l; once = fewer e es l }
+
+in-order : (p : Plan) (n : ℕ) → InOrder (run p n)
+in-order p n =
+    every-run p InOrder
+    (record { ordered = ordered-generate 0 (p .vehicles) (empty, none); once = λ c. omega (arith, no-unplug c 0 (p .vehicles) []) })
+    (λ n k. stays p (run p n) k (stepped p (run p n)) (flagged p n))
+    n
+
+pub ordered : (p : Plan) (n : ℕ) → Ordered (run p n .site .pending)
+ordered p n = in-order p n .ordered
