@@ -1,6 +1,7 @@
 pub mod Units
 pub mod Held
 pub mod RunMoves
+pub mod InOrder
 pub mod Quiet
 pub mod DueFirst
 pub mod Opened

@@ -14,6 +14,7 @@ ghost use lib.ListN.{replicate};
 ghost use Rattle.charger.specs.Lists.{All};
 ghost use Rattle.charger.specs.Code.Queue.{waiting};
 ghost use Rattle.charger.specs.Code.Vehicles.{listed};
+ghost use Rattle.engine.specs.Events.{Ordered};
 ghost use Rattle.engine.specs.SiteState.{isEmpty};
 ghost use Rattle.power.specs.ChargerState.{empty, allFree};
 ghost use Rattle.power.specs.Code.Bank.{bank, Room, Rising};
@@ -222,7 +223,8 @@ pub fn run(
     requires vehicles { ⌜ (site .vehicles .len ≤ 64) × All InTime (listed (site .vehicles)) ⌝ }
     requires limit { ⌜ allowance ≤ 10000000 ⌝ }
     requires rising { ⌜ Rising (now curves) (now lens) ⌝ }
-    ensures { λ r. ⌜ RunDone (planOf site rows (now (curves .entry)) (now (lens .entry))) (site .count) allowance (r .time) (r .ended) (r .simulation) (now (floats .exit)) (now (bytes .exit)) ⌝ }
+    ensures done { λ r. ⌜ RunDone (planOf site rows (now (curves .entry)) (now (lens .entry))) (site .count) allowance (r .time) (r .ended) (r .simulation) (now (floats .exit)) (now (bytes .exit)) ⌝ }
+    ensures order { λ r. ⌜ Ordered (pending (r .simulation .events)) ⌝ }
 {
     clear_all(floats, bytes, site.count);
     let vehicles = site.vehicles;

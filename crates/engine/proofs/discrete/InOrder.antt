@@ -12,8 +12,8 @@ use Rattle.charger.proofs.Lists.{all-map, none-counted}
 use Rattle.engine.specs.declared.events.Event.{Event}
 use Rattle.engine.specs.declared.events.EventType.{EventType}
 use Rattle.engine.specs.declared.events.EventType.the-variants.{Arrival, Renege, Unplug}
-use Rattle.engine.specs.Plan.{Plan, stay}
-use Rattle.engine.specs.Events.{unplug, rank, placeBy, Ordered, empty}
+use Rattle.engine.specs.Plan.{Plan}
+use Rattle.engine.specs.Events.{unplug, rank, placeBy, push, Ordered, empty}
 use Rattle.engine.specs.SiteState.{startCharging}
 use Rattle.engine.specs.Discrete.{Occupant, State, run}
 use Rattle.engine.specs.Demand.{isUnplug, unplugs}
@@ -39,61 +39,52 @@ taken-past [] c h = absurd (omega (arith, h))
 taken-past (o ∷ l) zero h = omega arith
 taken-past (o ∷ l) (suc c) h = omega (arith, taken-past l c h)
 
--- in order, and at most one unplug pending at each charger
-pub record InOrder (s : State) : Type 0 where
-  pub ordered : Ordered (s .site .pending)
-  pub once : (c : ℕ) → count (unplugs c) (s .site .pending) ≤ 1
+-- in order, and at most one unplug at each charger
+record InOrder (l : List Event) : Type 0 where
+  ordered : Ordered l
+  once : (c : ℕ) → count (unplugs c) l ≤ 1
 
 one-more : (b : Bool) {n : ℕ} → n ≤ 1 → (b ≡ true → n ≡ 0) → tick b + n ≤ 1
 one-more true h k = omega (arith, k refl)
 one-more false h k = omega (arith, h)
 
-module _ (p : Plan) (s : State) (h : InOrder s) where
-  -- the charger that an arrival takes has no unplug pending
-  none-taken : (e : Event) (es : List Event) (c : ℕ) → s .site .pending ≡ e ∷ es → e .kind ≡ Arrival → tick (takenAt (s .site .places) c) ≡ 0 → Flagged s → count (unplugs c) es ≡ 0
-  none-taken e es c l k a f = omega (arith, popped p c s e es Arrival l k, f c (taken-past (s .site .places) c a), a)
+module _ (p : Plan) (s : State) (h : InOrder (s .site .pending)) (e : Event) (es : List Event) (l : s .site .pending ≡ e ∷ es) where
+  behind : InOrder es
+  behind = record { ordered = ordered-tail (rw l at (h .ordered)); once = λ c. omega (arith, popped p c s e es (e .kind) l refl, h .once c) }
 
-  -- nor the one that was just popped
-  none-passed : (e : Event) (es : List Event) → s .site .pending ≡ e ∷ es → e .kind ≡ Unplug → count (unplugs (e .charger)) es ≡ 0
-  none-passed e es l k =
+  -- the charger that an arrival takes has no unplug pending
+  none-taken : (c : ℕ) → e .kind ≡ Arrival → tick (takenAt (s .site .places) c) ≡ 0 → Flagged s → count (unplugs c) es ≡ 0
+  none-taken c k a f = omega (arith, popped p c s e es Arrival l k, f c (taken-past (s .site .places) c a), a)
+
+  -- nor has the one whose unplug was popped
+  none-passed : e .kind ≡ Unplug → count (unplugs (e .charger)) es ≡ 0
+  none-passed k =
       omega (arith, popped p (e .charger) s e es Unplug l k, ap tick (eq-eqb (e .charger) (e .charger) refl), h .once (e .charger))
 
-  behind : {e : Event} {es : List Event} → s .site .pending ≡ e ∷ es → Ordered es
-  behind l = ordered-tail (rw l at (h .ordered))
-
-  fewer : (e : Event) (es : List Event) → s .site .pending ≡ e ∷ es → (c : ℕ) → count (unplugs c) es ≤ 1
-  fewer e es l c = omega (arith, popped p c s e es (e .kind) l refl, h .once c)
-
-  -- what a plug-in pushes
-  taken : (d : ℕ) (e : Event) (es : List Event) → s .site .pending ≡ e ∷ es → count (unplugs d) es ≡ 0 → (c : ℕ) → tick (eqb c d) + count (unplugs c) es ≤ 1
-  taken d e es l z c = one-more (eqb c d) (fewer e es l c) (λ b. ap (λ (n : ℕ). count (unplugs n) es) (eqb-true c d b) ∙ z)
-
-  pub stays : {t : State} → Stepped p s t → Flagged s → InOrder t
-  unfolding startCharging
-  stays (ended l) f = h
-  stays (charges e es c l k a) f =
-      let z = none-taken e es c l k (available-flag p (s .site) (e .vehicle) c a) f in
+  -- so its new unplug finds its place
+  plugs-in : (t v d : ℕ) → count (unplugs d) es ≡ 0 → InOrder (push (unplug t v d) es)
+  plugs-in t v d z =
       record {
-        ordered = ordered-push _ (unplug-apart (e .time + stay p (e .vehicle) c) (e .vehicle) c es z) (behind l);
-        once = λ d. rw (count-push (unplugs d) (unplug (e .time + stay p (e .vehicle) c) (e .vehicle) c) es) (taken c e es l z d);
+        ordered = ordered-push _ (unplug-apart t v d es z) (behind .ordered);
+        once = λ c. rw (count-push (unplugs c) (unplug t v d) es) (one-more (eqb c d) (behind .once c) (λ b. ap (λ (n : ℕ). count (unplugs n) es) (eqb-true c d b) ∙ z));
       }
-  stays (balks e es l k) f = record { ordered = behind l; once = fewer e es l }
-  stays (waits e es l k) f = record { ordered = behind l; once = fewer e es l }
-  stays (frees e es l k) f = record { ordered = behind l; once = fewer e es l }
-  stays (passes e es q v r l k x a) f =
-      let z = none-passed e es l k in
-      record {
-        ordered = ordered-push _ (unplug-apart (e .time + stay p v (e .charger)) v (e .charger) es z) (behind l);
-        once = λ d. rw (count-push (unplugs d) (unplug (e .time + stay p v (e .charger)) v (e .charger)) es) (taken (e .charger) e es l z d);
-      }
-  stays (reneges e es q v r l k x a) f = record { ordered = behind l; once = fewer e es l }
-  stays (misses e es l k a) f = record { ordered = behind l; once = fewer e es l }
 
-in-order : (p : Plan) (n : ℕ) → InOrder (run p n)
+stays : (p : Plan) (s : State) {t : State} → Stepped p s t → Flagged s → InOrder (s .site .pending) → InOrder (t .site .pending)
+unfolding startCharging
+stays p s (ended l) f h = h
+stays p s (charges e es c l k a) f h = plugs-in p s h e es l _ _ c (none-taken p s h e es l c k (available-flag p (s .site) (e .vehicle) c a) f)
+stays p s (balks e es l k) f h = behind p s h e es l
+stays p s (waits e es l k) f h = behind p s h e es l
+stays p s (frees e es l k) f h = behind p s h e es l
+stays p s (passes e es q v r l k x a) f h = plugs-in p s h e es l _ _ (e .charger) (none-passed p s h e es l k)
+stays p s (reneges e es q v r l k x a) f h = behind p s h e es l
+stays p s (misses e es l k a) f h = behind p s h e es l
+
+in-order : (p : Plan) (n : ℕ) → InOrder (run p n .site .pending)
 in-order p n =
-    every-run p InOrder
+    every-run p (λ s. InOrder (s .site .pending))
     (record { ordered = ordered-generate 0 (p .vehicles) (empty, none); once = λ c. omega (arith, no-unplug c 0 (p .vehicles) []) })
-    (λ n k. stays p (run p n) k (stepped p (run p n)) (flagged p n))
+    (λ n k. stays p (run p n) (stepped p (run p n)) (flagged p n) k)
     n
 
 pub ordered : (p : Plan) (n : ℕ) → Ordered (run p n .site .pending)

@@ -72,7 +72,7 @@ module _ (a b : Event) where
 
 -- ---- it is strict and transitive, and total on events that differ in kind or place
 
--- of one kind, and not at one place
+-- of two kinds, or at two places
 abbrev pub Apart : Event → Event → Type 0
 Apart a b = rank (a .kind) ≡ rank (b .kind) → eqb (placeOf a) (placeOf b) ≡ false
 

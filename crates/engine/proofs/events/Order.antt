@@ -2,7 +2,7 @@
 use mathlib.Core.Path.{_≡_}
 use mathlib.Core.Bool.{true, false}
 use mathlib.Core.List.{List, [], _∷_}
-use Prim.Native.Nat.{ℕ, suc, _+_, _<_}
+use Prim.Native.Nat.{ℕ, suc, _+_, _≤_, _<_}
 use native.Mathlib.Omega.{arith}
 use borrow.Author.Tests.{ne-eqb}
 use lib.Dec.{eqb}
@@ -12,7 +12,7 @@ use Rattle.charger.proofs.Lists.{all-map, by-cond, by-test}
 use Rattle.engine.specs.declared.events.Event.{Event}
 use Rattle.engine.specs.declared.events.EventType.{EventType}
 use Rattle.engine.specs.declared.events.EventType.the-variants.{Arrival, Renege, Unplug}
-use Rattle.engine.specs.Events.{arrival, renege, rank, placeBy, before, push, Ordered, empty, least, generate}
+use Rattle.engine.specs.Events.{arrival, renege, rank, placeBy, placeOf, before, push, Ordered, empty, least, generate}
 use Rattle.engine.proofs.events.Before.{Apart, before-trans, before-other}
 
 pub all-push : {P : Event → Type 0} (e : Event) {l : List Event} → P e → All P l → All P (push e l)
@@ -39,31 +39,23 @@ ordered-tail (least h s) = s
 abbrev pub Upto : ℕ → List Event → Type 0
 Upto v l = Ordered l × All (λ e. e .vehicle < v) l
 
--- an arrival or a renege of v is apart from them: an unplug is of another kind
-arrival-apart : (t v : ℕ) (e : Event) → e .vehicle < v → Apart (arrival t v) e
-arrival-apart t v e h = go (e .kind)
+-- an event that goes by its vehicle's place, v, is apart from them
+vehicle-apart : (a e : Event) → 1 ≤ rank (a .kind) → e .vehicle < placeOf a → Apart a e
+vehicle-apart a e r h = go (e .kind)
   where
-    go : (k : EventType) → rank Arrival ≡ rank k → eqb v (placeBy k (e .vehicle) (e .charger)) ≡ false
-    go Arrival r = ne-eqb v (e .vehicle) (omega arith)
-    go Renege r = absurd (omega arith)
-    go Unplug r = absurd (omega arith)
-
-renege-apart : (t v : ℕ) (e : Event) → e .vehicle < v → Apart (renege t v) e
-renege-apart t v e h = go (e .kind)
-  where
-    go : (k : EventType) → rank Renege ≡ rank k → eqb v (placeBy k (e .vehicle) (e .charger)) ≡ false
-    go Renege r = ne-eqb v (e .vehicle) (omega arith)
-    go Arrival r = absurd (omega arith)
-    go Unplug r = absurd (omega arith)
+    go : (k : EventType) → rank (a .kind) ≡ rank k → eqb (placeOf a) (placeBy k (e .vehicle) (e .charger)) ≡ false
+    go Unplug s = absurd (omega arith)
+    go Arrival s = ne-eqb (placeOf a) (e .vehicle) (omega arith)
+    go Renege s = ne-eqb (placeOf a) (e .vehicle) (omega arith)
 
 module _ (v t u : ℕ) {l : List Event} (h : Upto v l) where
   pub upto-arrival : Ordered (push (arrival t v) l)
-  upto-arrival = ordered-push _ (all-map (λ e k. arrival-apart t v e k) (h .1)) (h .0)
+  upto-arrival = ordered-push _ (all-map (λ e k. vehicle-apart (arrival t v) e (omega arith) k) (h .1)) (h .0)
 
   -- and both of its events
   pub upto-next : Upto (suc v) (push (renege u v) (push (arrival t v) l))
   upto-next = (
-    ordered-push _ (all-push _ (λ r. absurd (omega arith)) (all-map (λ e k. renege-apart u v e k) (h .1))) upto-arrival,
+    ordered-push _ (all-push _ (λ r. absurd (omega arith)) (all-map (λ e k. vehicle-apart (renege u v) e (omega arith) k) (h .1))) upto-arrival,
     all-push _ (omega arith) (all-push _ (omega arith) (all-map (λ e k. omega arith) (h .1))),
   )
 

@@ -1,13 +1,16 @@
 -- `engine::timestep::run` meets its contract.
-use mathlib.Core.Path.{_≡_}
+use mathlib.Core.Path.{_≡_, sym, subst}
 use native.Mathlib.Omega.{arith}
 use denote.Ref.{now}
 use lib.ListN.{length, take, length-take}
 use lib.Seq.{length-take-le}
 use Rattle.charger.proofs.waiting_queue.Part.{length-mapped}
+use Rattle.engine.specs.Events.{Ordered}
+use Rattle.engine.specs.Timestep.{State}
 use Rattle.engine.specs.Code.Simulation.{planOf}
 use Rattle.engine.proofs.plug_in.Handling.{room-kept}
 use Rattle.engine.proofs.timestep.Begins.{fit-start}
+use Rattle.engine.proofs.timestep.InOrder.{ordered}
 use Rattle.engine.proofs.timestep.LoopRun.{finishes}
 use borrow.Author.Needs.{needs}
 use Rattle.engine.proofs.timestep.run.Statement.{statement}
@@ -52,7 +55,9 @@ returns : tie.Need-returns
 returns c =
     let start = c .before .before .before .before .before .before .before .before .before .before .before .before .before in
     let a = start .args in
-    finishes (planOf (a .site) (a .rows) (now (a .curves)) (now (a .lens))) (a .site .count) (a .allowance) (few start) (c .before .before .before .before .before .new .ensures) (c .before .before .before .before .before .before .before .before .before .clear-all .ensures) (c .before .before .rounds .ensures)
+    let p = planOf (a .site) (a .rows) (now (a .curves)) (now (a .lens)) in
+    let done = finishes p (a .site .count) (a .allowance) (few start) (c .before .before .before .before .before .new .ensures) (c .before .before .before .before .before .before .before .before .before .clear-all .ensures) (c .before .before .rounds .ensures) in
+    (done, subst (λ (m : State). Ordered (m .site .pending)) (sym (done .state)) (ordered p (a .allowance)))
 
 pub run-spec : {M : Type 1} → statement M
 run-spec =

@@ -27,7 +27,7 @@ returns c =
     let a = c .before .before .before .before .before .before .before .before .before .args in
     let run = c .before .before .before .before .before .run in
     shows-steps (planOf (a .site) (a .rows) (now (a .curves)) (now (a .lens))) (a .allowance) (a .site .count) (run .result .time) (run .result .ended) (run .result .simulation) _ _ (c .count-up .result)
-    (run .ensures) (c .count-up .ensures)
+    (run .ensures .0) (c .count-up .ensures)
 
 pub by-steps-spec : {M : Type 1} → statement M
 by-steps-spec =
