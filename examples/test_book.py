@@ -11,6 +11,11 @@ from sitefiles.blocks import BLOCK, Damaged
 CRATES = Path(__file__).parent.parent / "crates"
 
 
+def recorded_cases():
+    """How many cases there are, by the first number of their file."""
+    return struct.unpack("<I", (CRATES / "vectors" / "stdin").read_bytes()[:4])[0]
+
+
 def recorded_outputs():
     """What the Rust original answered to the recorded cases: books and refusals, one after another."""
     data = (CRATES / "vectors" / "stdout").read_bytes()
@@ -26,7 +31,7 @@ def recorded_outputs():
 class Reading(unittest.TestCase):
     def test_every_recorded_book_and_refusal_can_be_read(self):
         outputs = list(recorded_outputs())
-        self.assertEqual(len(outputs), 404)
+        self.assertEqual(len(outputs), recorded_cases())
         for output in outputs:
             if output.startswith(b"BOOK"):
                 book.read(output)

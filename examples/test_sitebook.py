@@ -120,7 +120,7 @@ class Plans(Commands):
 class Books(Commands):
     def test_show(self):
         lines = self.succeeds("show", stdin=RECORDED_BOOK).decode().split("\n")
-        self.assertEqual(lines[0], "7 sessions by steps, 31048 units used, ended")
+        self.assertEqual(lines[0], "7 sessions by steps, 30846 units used, ended")
         self.assertEqual(lines[2].split(), "7001 101 CCS2 charged 07:00:00 07:00:00 07:53:46 0 2926.0 300.0 75.00 30.001 0.20-0.80".split())
         self.assertEqual(lines[5].split(), "7006 balked 07:06:40 0 0.55".split())
 

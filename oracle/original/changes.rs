@@ -16,7 +16,7 @@ pub const fn change(file: &'static str, old: &'static str, new: &'static str) ->
 const STD_HEAP: &str = "use std::collections::BinaryHeap;\n";
 const STAND_IN_HEAP: &str = "use binary_heap::BinaryHeap;\n";
 
-pub const CHANGES: [Change; 14] = [
+pub const CHANGES: [Change; 15] = [
     // The stand-in for the heap, and what it pops by, which is request 4's. (The map's stand-in takes the crate's own name.)
     change("containers/vehicle_list.rs", STD_HEAP, STAND_IN_HEAP),
     change("evse/charger.rs", STD_HEAP, STAND_IN_HEAP),
@@ -38,6 +38,16 @@ pub const CHANGES: [Change; 14] = [
 }
 
 impl PartialOrd for Event {
+",
+    ),
+    // Request 6: the sum has the charging cars only.
+    change(
+        "evse/site.rs",
+        "            total_requested_power_kw += requested_power_kw.min(charger_max_power_kw);\n",
+        "            use crate::evse::ChargerStatus;
+            if matches!(charger_state.status, ChargerStatus::Charging) {
+                total_requested_power_kw += requested_power_kw.min(charger_max_power_kw);
+            }
 ",
     ),
     // The builder of vehicles samples; the oracle makes vehicles from the plan.

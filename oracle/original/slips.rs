@@ -41,14 +41,11 @@ pub const SLIPS: [(&str, Change); 19] = [
         ),
     ),
     (
-        "idle-left-out",
+        "idle-counted",
         change(
             "evse/site.rs",
-            "            total_requested_power_kw += requested_power_kw.min(charger_max_power_kw);\n",
-            "            if charger_state.status == crate::evse::ChargerStatus::Charging {
-                total_requested_power_kw += requested_power_kw.min(charger_max_power_kw);
-            }
-",
+            "matches!(charger_state.status, ChargerStatus::Charging)",
+            "matches!(charger_state.status, ChargerStatus::Charging | ChargerStatus::Idle)",
         ),
     ),
     (

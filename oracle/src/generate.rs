@@ -8,7 +8,7 @@ use crate::draft::Draft;
 use crate::draw::Draw;
 use crate::run;
 use faults::{cut_or_extended, damaged, edges, refused};
-use site::{CONTENTION, Clock, FEW, Idle, LARGEST, MANY, NO_LENGTH, Soc, Style, TIES, draft};
+use site::{CONTENTION, Clock, FEW, Idle, LARGEST, MANY, NO_LENGTH, PARKED, Soc, Style, TIES, draft};
 
 #[derive(Clone)]
 pub struct Case {
@@ -23,13 +23,14 @@ pub struct Case {
 type Shape = (&'static str, u64, fn(&mut Draw) -> Case);
 
 /// Each shape with its weight.
-pub const SHAPES: [Shape; 18] = [
+pub const SHAPES: [Shape; 19] = [
     ("few", 8, |d| good(d, FEW)),
     ("contention", 14, |d| good(d, CONTENTION)),
     ("ties at one second", 16, |d| good(d, TIES)),
     ("stays of no length", 10, |d| good(d, NO_LENGTH)),
     ("many chargers", 4, |d| good(d, MANY)),
     ("site limits", 10, |d| good(d, Style { limit: true, ..CONTENTION })),
+    ("parked cars", 10, |d| by_steps(d, PARKED)),
     ("fractional idle", 5, |d| good(d, Style { idle: Idle::Fractional, clock: Clock::Short, ..TIES })),
     ("SOC at points", 6, |d| good(d, Style { soc: Soc::AtPoints, points: [2, 8], ..FEW })),
     ("subnormal SOC", 4, |d| good(d, Style { soc: Soc::Subnormal, points: [1, 6], ..FEW })),
@@ -70,6 +71,11 @@ fn good(draw: &mut Draw, style: Style) -> Case {
     call(draw, plan, style.clock)
 }
 
+fn by_steps(draw: &mut Draw, style: Style) -> Case {
+    let plan = draft(draw, style).bytes();
+    call_by(draw, plan, 1, style.clock)
+}
+
 fn empty(draw: &mut Draw) -> Case {
     let mut draft = draft(draw, Style { chargers: [0, 2], ..FEW });
     match draw.below(4) {
@@ -88,6 +94,10 @@ fn empty(draw: &mut Draw) -> Case {
 /// An engine, an allowance and a book for a plan.
 fn call(draw: &mut Draw, plan: Vec<u8>, clock: Clock) -> Case {
     let engine = draw.below(2) as u32;
+    call_by(draw, plan, engine, clock)
+}
+
+fn call_by(draw: &mut Draw, plan: Vec<u8>, engine: u32, clock: Clock) -> Case {
     let allowance = allowance(draw, &plan, engine, clock);
     let book = match draw.below(24) {
         0 => draw.pick(&[LEAST_BOOK + 1, LEAST_BOOK + BLOCK, 10_000]),

@@ -95,6 +95,41 @@ mod order_at_equal_times {
     }
 }
 
+/// Request 6: the sum has the charging cars only.
+mod parked_cars {
+    use super::*;
+
+    /// At a limit of 50 kW, each car at a charger of its own.
+    fn apart(cars: &[Car]) -> Draft {
+        let mut draft = bay(cars);
+        draft.chargers = (1..=cars.len() as u32).map(|id| charger(id, &[], 50.0, 1_200.0, 400.0)).collect();
+        draft.set_limit(50.0);
+        draft
+    }
+
+    #[test]
+    fn the_cars_that_charge_do_not_feel_them() {
+        let two_beside = |parked: usize| {
+            let mut cars = vec![Car { arrival: 1, target: 0.26, ..Car::default() }; 2];
+            cars.extend(vec![Car { idle: 9_000.0, ..brief(0, 1, 0) }; parked]);
+            let ran = steps(&apart(&cars));
+            [1, 2].map(|id| (ran.of(id).peak, ran.of(id).unplug, ran.of(id).energy))
+        };
+        assert_eq!(two_beside(0)[0].0, Some(25.0));
+        for parked in 1..=6 {
+            assert_eq!(two_beside(parked), two_beside(0));
+        }
+    }
+
+    #[test]
+    fn a_car_counts_in_the_round_that_brings_it_to_its_target() {
+        let one_round = Car { arrival: 0, target: 0.2501, ..Car::default() };
+        let peak = |beside: Car| steps(&apart(&[one_round.clone(), beside])).of(1).peak;
+        assert_eq!(peak(brief(0, 1, 0)), Some(25.0));
+        assert_eq!(peak(brief(1, 1, 0)), Some(50.0));
+    }
+}
+
 mod the_step_engine {
     use super::*;
 

@@ -112,7 +112,7 @@ fn m8() {
 
 #[test]
 fn m9() {
-    assert_eq!(caps(50.0, ChargerStatus::Idle), [25.0, 25.0]);
+    assert_eq!(caps(50.0, ChargerStatus::Idle), [50.0, 50.0]);
 }
 
 #[test]
@@ -121,7 +121,7 @@ fn m9_in_a_run() {
     draft.chargers.push(charger(2, &[], 50.0, 1_200.0, 400.0));
     draft.set_limit(50.0);
     let ran = steps(&draft);
-    assert_eq!((ran.of(1).peak, ran.of(2).peak), (Some(25.0), Some(50.0)));
+    assert_eq!((ran.of(1).peak, ran.of(2).peak), (Some(50.0), Some(50.0)));
 }
 
 #[test]

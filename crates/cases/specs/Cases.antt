@@ -164,8 +164,8 @@ worked =
     charge (kwh 50) tapering (percent 50) (percent 100) (kw 75) gives takes (output (seconds 1440) (kwh 25) (record { 0 = ratio 125 2 })) ∷
     -- M8 two 50 kW requests: limit 100 gives caps of 50 each
     allot (kw 100) (asks50 Charging (kw 25) ∷ asks50 Charging (kw 25) ∷ []) gives caps (kw 50 ∷ kw 50 ∷ []) ∷
-    -- M9 limit 50, the second car Idle, gives caps of 25 each
-    allot (kw 50) (asks50 Charging (kw 50) ∷ asks50 Idle (kw 50) ∷ []) gives caps (kw 25 ∷ kw 25 ∷ []) ∷
+    -- M9 limit 50, the second car Idle, gives the charging car a cap of 50 (request 6)
+    allot (kw 50) (asks50 Charging (kw 25) ∷ asks50 Idle (kw 25) ∷ []) gives caps (kw 50 ∷ kw 50 ∷ []) ∷
     -- M10 steps: unplug 2, charge duration 0.5, used 3
     run steps 10 (plan atTarget) gives ended 3 (charged 0 0 2 0 oneRound (record { 0 = ratio 3 2 }) ∷ []) ∷
     -- M11 by events: unplug 2, duration 0

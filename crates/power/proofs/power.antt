@@ -3,3 +3,4 @@ pub mod Passes
 pub mod Gaps
 pub mod SpinRounds
 pub mod PassTurns
+pub mod Parked

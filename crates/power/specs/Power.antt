@@ -11,7 +11,7 @@ use Rattle.power.specs.declared.charger_state.Status.{Status}
 use Rattle.power.specs.declared.charger_state.ChargerState.{ChargerState}
 use Rattle.power.specs.declared.power.Limit.{Limit}
 use Rattle.power.specs.declared.power.Limit.the-variants.{Unlimited, AtMost}
-use Rattle.power.specs.ChargerState.{isFree, draw, withRequest, withCap, progress}
+use Rattle.power.specs.ChargerState.{isFree, isCharging, draw, withRequest, withCap, progress}
 
 -- a profile goes by its place in the plan, from 0
 abbrev pub ProfilePlace : Type 0
@@ -26,11 +26,11 @@ unfoldable pub request : (ProfilePlace → List Point) → ChargerState → Char
 unfolding powerAt
 request curve s = withRequest (powerAt (curve (s .profile)) (s .soc)) s
 
--- which cars count in the sum: all that stand at a charger, Idle ones too
+-- which cars count in the sum: those that charge; parked cars draw nothing (request 6)
 abbrev pub addedBy : Float → Status → Float → Float
-addedBy sum status power = cond (isFree status) sum (sum ⊕ power)
+addedBy sum status power = cond (isCharging status) (sum ⊕ power) sum
 
--- the sum of what all cars draw, in charger order, added to `sum`
+-- the sum of what they draw, in charger order, added to `sum`
 unfoldable pub added : Float → ChargerState → Float
 added sum s = addedBy sum (s .status) (draw s)
 

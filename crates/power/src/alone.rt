@@ -7,6 +7,7 @@ use crate::charger_state::is_finished;
 use crate::charger_state::is_free;
 use crate::power::Limit;
 use crate::power::Spun;
+use crate::power::added;
 use crate::power::cap_of;
 use crate::power::scaling;
 use crate::thin::advanced;
@@ -73,15 +74,19 @@ fn round(s: ChargerState, power: Kw, limit: Limit) -> ChargerState
             }
         }
     }
-    advanced(asked, cap_of(asked, scaling(limit, 0.0 + asked.draw())))
+    advanced(
+        asked,
+        cap_of(asked, scaling(limit, added(0.0, status, asked.draw()))),
+    )
 }
 
-// The same round, which is short where the car asks for what it asked for in the round before: its cap stays then.
+// The same round, which is short where the car still charges and asks for what it asked for in the round before: its cap stays then.
 fn next(s: ChargerState, power: Kw, limit: Limit, later: bool) -> ChargerState
     requires { ⌜ (later ≡ true → CapMatchesRequest limit s) ⌝ }
     ensures { λ r. ⌜ r ≡ roundAlone limit power s ⌝ }
 {
-    if later {
+    let status = s.status;
+    if later & is_charging(status) {
         if same(power.0, s.requested.0) {
             return s.progress();
         }

@@ -44,19 +44,19 @@ pub fn cap_of(s: ChargerState, factor: f64) -> Kw
     s.rated
 }
 
-// The sum with what a car draws. Idle cars count too.
-fn added(sum: f64, status: Status, draw: f64) -> f64
+// The sum with what a car draws, if it charges. Parked cars draw nothing.
+pub fn added(sum: f64, status: Status, draw: f64) -> f64
     ensures { λ r. ⌜ r ≡ Spec.addedBy sum status draw ⌝ }
 {
     match status {
         Status::Free => sum,
         Status::Charging => sum + draw,
-        Status::Idle => sum + draw,
-        Status::Finished => sum + draw,
+        Status::Idle => sum,
+        Status::Finished => sum,
     }
 }
 
-// One charger's turn in the first pass: its request, and the sum with its draw. `segments` has, for each charger, the segment of
+// One charger's turn in the first pass: its request, and the sum with what it draws. `segments` has, for each charger, the segment of
 // its curve that was found last, which is where the search begins.
 fn request_at(
     floats: &mut [[f64; 9]],
@@ -85,7 +85,7 @@ fn request_at(
     added(sum, status, asked.draw())
 }
 
-// The first pass: every car's request, and the sum of what all draw. `busy` has the places of the cars among the first n.
+// The first pass: every car's request, and the sum of what those draw that charge. `busy` has the places of the cars among the first n.
 fn request_power(
     floats: &mut [[f64; 9]],
     bytes: &mut [[u8; 4]],

@@ -1,6 +1,7 @@
 //! Times the original and the product on the same inputs, by call, in one process.
 use oracle::Numbers;
 use oracle::arguments::{Words, stop};
+use oracle::bay::brief;
 use oracle::book::LEAST_BOOK;
 use oracle::draft::{Car, Draft, charger, profile};
 use oracle::draw::Draw;
@@ -132,6 +133,8 @@ fn works() -> Vec<Work> {
             }
         }
     }
+    works.push(parked(1));
+    works.push(parked(4));
     works.push(day());
     works.push(sparse_day());
     works.push(far_apart());
@@ -183,6 +186,19 @@ fn rounds(chargers: u32, points: u32, high: bool, limited: bool) -> Work {
         if limited { ", limit binds" } else { "" }
     );
     Work { name, plan: steady(chargers, points, high, limited), run: Some((1, 100_000)), per: Per::Round }
+}
+
+/// Cars that are parked from the second round on, under a limit that would bind if they counted.
+fn parked(chargers: u32) -> Work {
+    let mut draft = Draft::default();
+    draft.profiles.push(profile(1, 50.0, &[(0.5, 50.0)]));
+    draft.set_limit(25.0);
+    for k in 0..chargers {
+        draft.chargers.push(charger(k, &[], 50.0, 1_200.0, 400.0));
+        draft.vehicles.push(Car { id: k, idle: 200_000.0, ..brief(0, 0, 0) }.block());
+    }
+    let name = format!("steps: {chargers} parked");
+    Work { name, plan: draft.bytes(), run: Some((1, 100_000)), per: Per::Round }
 }
 
 /// Four chargers and twenty cars over a day, most of them in two rush hours.

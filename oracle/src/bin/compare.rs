@@ -2,11 +2,13 @@
 //!
 //! By call: the product that SITE_ARCHIVE named at build time, else the copy with the slip that SLIP named.
 //! `--program` compares a program by standard input and output instead.
+//! `--shape` takes every case of the one shape that it names.
+//! `--count` goes on past differences and says how many cases differ.
 //! `--sweep` damages a small plan at every byte in place of drawn cases.
 //! `--trace` names each case on standard error before it runs, for a side that may crash or hang.
 use oracle::arguments::Words;
 use oracle::draw::Draw;
-use oracle::generate::{self, Case};
+use oracle::generate::{self, Case, SHAPES};
 use oracle::shrink::shrink;
 use oracle::sides::{OTHER, Side, difference_on_input};
 use oracle::{blocks, program, words};
@@ -15,32 +17,54 @@ use std::path::PathBuf;
 use std::process::ExitCode;
 use std::time::Instant;
 
-const USAGE: &str = "compare [--cases N] [--seed S] [--from INDEX] [--program PATH] [--sweep] [--trace]";
+const USAGE: &str =
+    "compare [--cases N] [--seed S] [--from INDEX] [--shape NAME] [--program PATH] [--sweep] [--count] [--trace]";
 
 struct Options {
     cases: u64,
     seed: u64,
     from: u64,
+    shape: Option<String>,
     program: Option<PathBuf>,
     sweep: bool,
+    count: bool,
     trace: bool,
 }
 
 fn options() -> Options {
-    let mut options = Options { cases: 20_000, seed: 1, from: 0, program: None, sweep: false, trace: false };
+    let mut options = Options {
+        cases: 20_000,
+        seed: 1,
+        from: 0,
+        shape: None,
+        program: None,
+        sweep: false,
+        count: false,
+        trace: false,
+    };
     let mut words = Words::of(USAGE);
     while let Some(word) = words.word() {
         match word.as_str() {
             "--cases" => options.cases = words.number("N"),
             "--seed" => options.seed = words.number("S"),
             "--from" => options.from = words.number("INDEX"),
+            "--shape" => options.shape = Some(shape(&mut words)),
             "--program" => options.program = Some(words.needed("PATH").into()),
             "--sweep" => options.sweep = true,
+            "--count" => options.count = true,
             "--trace" => options.trace = true,
             _ => words.wrong(format!("{word} is unknown")),
         }
     }
     options
+}
+
+fn shape(words: &mut Words) -> String {
+    let name = words.needed("NAME");
+    if SHAPES.iter().all(|(known, _, _)| *known != name) {
+        words.wrong(format!("there is no shape {name}"));
+    }
+    name
 }
 
 fn main() -> ExitCode {
@@ -59,32 +83,40 @@ fn main() -> ExitCode {
         return ExitCode::FAILURE;
     }
     let mut answers = BTreeMap::new();
-    let mut compared = 0;
+    let (mut compared, mut different) = (0, 0);
     let cases: Box<dyn Iterator<Item = Case>> = match options.sweep {
         true => Box::new(sweep(options.seed)),
         false => {
             let end = options.from.saturating_add(options.cases);
-            Box::new((options.from..end).map(|index| generate::case(options.seed, index)))
+            let (seed, shape) = (options.seed, options.shape.clone());
+            Box::new((options.from..end).map(move |index| match &shape {
+                Some(name) => generate::shaped(name, &mut Draw::new(seed, index)),
+                None => generate::case(seed, index),
+            }))
         }
     };
     for (k, case) in cases.enumerate() {
         if options.trace {
             eprintln!("case {}", options.from + k as u64);
         }
-        if let Some(what) = side.difference(&case) {
+        let difference = side.difference(&case);
+        compared += 1;
+        if options.count {
+            different += u64::from(difference.is_some());
+        } else if let Some(what) = difference {
             report(&side, options.from + k as u64, case, &what);
             return ExitCode::FAILURE;
         }
         *answers.entry(oracle::check(&case.plan)[0]).or_insert(0) += 1;
-        compared += 1;
     }
     let answers: Vec<String> = answers.iter().map(|(number, count)| format!("{number}: {count}")).collect();
     println!(
-        "{compared} cases alike in {:.1} s; answers of check by number: {}",
+        "{} of {compared} cases alike in {:.1} s; answers of check by number: {}",
+        compared - different,
         started.elapsed().as_secs_f64(),
         answers.join(", ")
     );
-    ExitCode::SUCCESS
+    if different == 0 { ExitCode::SUCCESS } else { ExitCode::FAILURE }
 }
 
 fn report(side: &Side, index: u64, case: Case, what: &str) {

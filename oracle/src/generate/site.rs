@@ -25,6 +25,8 @@ pub enum Idle {
     Small,
     Fractional,
     Mostly0,
+    /// Mostly longer than charging takes.
+    Long,
 }
 
 #[derive(Clone, Copy)]
@@ -60,6 +62,8 @@ pub const TIES: Style =
 /// Many events in one second, unplugs of several chargers among them.
 pub const NO_LENGTH: Style =
     Style { chargers: [1, 4], vehicles: [3, 14], soc: Soc::Reached, idle: Idle::Mostly0, ..TIES };
+/// Several cars at a site of little power, most of them parked at any time.
+pub const PARKED: Style = Style { chargers: [2, 6], vehicles: [3, 12], idle: Idle::Long, limit: true, ..CONTENTION };
 pub const MANY: Style = Style {
     profiles: [1, 16],
     points: [1, 30],
@@ -218,6 +222,7 @@ fn soc(draw: &mut Draw, style: Style, curve: &[(f64, f64)]) -> f64 {
 fn idle(draw: &mut Draw, style: Style) -> f64 {
     match style.idle {
         Idle::Mostly0 => draw.pick(&[0.0, 0.0, 0.0, 1.0]),
+        Idle::Long => draw.float(20.0, 600.0),
         Idle::Small => draw.pick(&[0.0, 0.0, 1.0, 2.0, 3.0, 0.5]),
         Idle::Fractional => match draw.below(4) {
             0 => draw.pick(&[5e-324, 1e-300, 0.5, 1.5, 2.25, 0.999_999, 1.0_f64.next_up(), 2.0_f64.next_down()]),

@@ -1,7 +1,7 @@
 -- One car among free chargers: its round is the round of all of them.
 use mathlib.Core.Path.{_≡_, refl, sym, ap, _∙_}
 use mathlib.Core.Logic.{⊎-elim}
-use mathlib.Core.Bool.{Bool, true, false, not, cond, _&&_}
+use mathlib.Core.Bool.{Bool, true, false, true≢false, not, cond, _&&_}
 use mathlib.Core.List.{List, [], _∷_, _++_, map, map-append, append-assoc}
 use Prim.Native.Nat.{ℕ, zero, suc, _+_, _-_, _≤_, _<_}
 use native.Mathlib.Nat.{eq-or-lt-of-le}
@@ -9,8 +9,8 @@ use native.Mathlib.Omega.{arith}
 use lib.Dec.{T, ltb, ltb→lt, nltb→le}
 use lib.ListN.{length, getD, length-append, length-map}
 use lib.Seq.{set-at}
-use lib.Ieee.{Float, lt, ne}
-use Rattle.curve.specs.F64.{_⊕_, _⊗_, ratio, least}
+use lib.Ieee.{Float, lt, le, ne}
+use Rattle.curve.specs.F64.{_⊕_, _⊖_, _⊗_, ratio, least}
 use Rattle.curve.specs.Curve.{powerAt}
 use Rattle.curve.specs.declared.points.Point.{Point}
 use Rattle.curve.specs.declared.units.Kw.{Kw}
@@ -24,7 +24,7 @@ use Rattle.power.specs.Power.{active, request, added, total, scaling, ca
 use Rattle.power.specs.Code.Rounds.{orFinished, anyFinished, Spun, spin}
 use Rattle.power.specs.Code.Alone.{capAlone, roundAlone, CapMatchesRequest}
 use Rattle.power.specs.Code.Bank.{stateAt, bank, vacantAt, Room, Stored, Cars, Gathered, spun}
-use Rattle.power.proofs.charger_state.Vacant.{and-left, and-right, free-stays, free-map, free-capped}
+use Rattle.power.proofs.charger_state.Vacant.{and-left, and-right, free-stays, free-adds, free-map, free-capped}
 use Rattle.power.proofs.power.SameCars.{same-progress}
 use Rattle.power.proofs.power.Passes.{total-append, any-append, length-bank, bank-set}
 use Rattle.power.proofs.power.SpinRounds.{spin-finished, spin-more}
@@ -35,7 +35,8 @@ use Rattle.power.proofs.power.Gaps.{still-active, all-free-snoc, vacant
 total-free : (z : Float) (ss : List ChargerState) → allFree ss ≡ true → total z ss ≡ z
 unfolding added
 total-free z [] h = refl
-total-free z (s ∷ ss) h = rw (and-left (isFree (s .status)) (allFree ss) h) (total-free z ss (and-right (isFree (s .status)) (allFree ss) h))
+total-free z (s ∷ ss) h =
+    rw (free-adds z (draw s) (s .status) (and-left (isFree (s .status)) (allFree ss) h)) (total-free z ss (and-right (isFree (s .status)) (allFree ss) h))
 
 map-at : (f : ChargerState → Kw) (none : Kw) (before behind : List ChargerState) (s : ChargerState) → getD (map f (before ++ (s ∷ behind))) (length before) none ≡ f s
 map-at f none [] behind s = refl
@@ -45,14 +46,14 @@ pub caps-length : (limit : Limit) (ss : List ChargerState) → length (caps limi
 unfolding caps
 caps-length limit ss = length-map ss _
 
-pub caps-alone : (limit : Limit) (none : Kw) (before behind : List ChargerState) → allFree before ≡ true → allFree behind ≡ true → (s : ChargerState) → isFree (s .status) ≡ false
+pub caps-alone : (limit : Limit) (none : Kw) (before behind : List ChargerState) → allFree before ≡ true → allFree behind ≡ true → (s : ChargerState)
     → getD (caps limit (before ++ (s ∷ behind))) (length before) none ≡ capAlone limit s
 unfolding caps capAlone added
-caps-alone limit none before behind f g s h =
-    let sum : total (ratio 0 1) (before ++ (s ∷ behind)) ≡ ratio 0 1 ⊕ draw s =
-    rw (total-append (ratio 0 1) before (s ∷ behind), total-free (ratio 0 1) before f, h) (total-free (ratio 0 1 ⊕ draw s) behind g)
+caps-alone limit none before behind f g s =
+    let sum : total (ratio 0 1) (before ++ (s ∷ behind)) ≡ added (ratio 0 1) s =
+    rw (total-append (ratio 0 1) before (s ∷ behind), total-free (ratio 0 1) before f) (total-free (added (ratio 0 1) s) behind g)
     in
-    rw sum (map-at (capOf (scaling limit (ratio 0 1 ⊕ draw s))) none before behind s)
+    rw sum (map-at (capOf (scaling limit (added (ratio 0 1) s))) none before behind s)
 
 -- ---- its round
 
@@ -83,7 +84,7 @@ module _ (limit : Limit) (curve : ℕ → List Point) where
         let requested : map (active (request curve)) (before ++ (s ∷ behind)) ≡ all = map-among (active (request curve)) (still-active (request curve)) s asked (rw h) in
         let capped : withCaps (caps limit all) all ≡ before ++ (withCap (capAlone limit asked) asked ∷ behind) =
         withCaps-alone (caps limit all) (s .cap) before behind free-before free-behind asked h (caps-length limit all)
-        ∙ rw (caps-alone limit (s .cap) before behind free-before free-behind asked h)
+        ∙ rw (caps-alone limit (s .cap) before behind free-before free-behind asked)
         in
         rw (requested, capped) (map-among progress (λ x e. free-stays (x .status) x e) _ _ refl)
 
@@ -212,17 +213,22 @@ least-second a b h = rw h (go (ne a a))
     go false = refl
 
 -- its cap, where it is known what it draws
-module _ (limit : Limit) (s : ChargerState) (drawn : Float) (draws : draw s ≡ drawn) where
-  abbrev factor : Float
-  factor = scaling limit (ratio 0 1 ⊕ drawn)
+abbrev factor : Limit → Float → Float
+factor limit drawn = scaling limit (ratio 0 1 ⊕ drawn)
 
-  cap-scaled : lt factor (ratio 1 1) ≡ true → capAlone limit s ≡ record { 0 = drawn ⊗ factor }
-  unfolding capAlone
-  cap-scaled f = rw (draws, f)
+module _ (limit : Limit) (s : ChargerState) (charging : isCharging (s .status) ≡ true) where
+  cap-charging : capAlone limit s ≡ capOf (factor limit (draw s)) s
+  unfolding capAlone added
+  cap-charging = rw charging
 
-  cap-rated : lt factor (ratio 1 1) ≡ false → capAlone limit s ≡ s .rated
-  unfolding capAlone
-  cap-rated f = rw (draws, f)
+  module _ (drawn : Float) (draws : draw s ≡ drawn) where
+    cap-scaled : lt (factor limit drawn) (ratio 1 1) ≡ true → capAlone limit s ≡ record { 0 = drawn ⊗ factor limit drawn }
+    unfolding capOf
+    cap-scaled f = cap-charging ∙ rw (draws, f)
+
+    cap-rated : lt (factor limit drawn) (ratio 1 1) ≡ false → capAlone limit s ≡ s .rated
+    unfolding capOf
+    cap-rated f = cap-charging ∙ rw (draws, f)
 
 module _ (limit : Limit) (power : Kw) (s : ChargerState) (charging : isCharging (s .status) ≡ true) where
   abbrev asked : ChargerState
@@ -234,33 +240,38 @@ module _ (limit : Limit) (power : Kw) (s : ChargerState) (charging : isCharging 
 
   module _ (drawn : Float) (draws : draw asked ≡ drawn) where
     abbrev scaled : Float
-    scaled = drawn ⊗ factor limit asked drawn draws
+    scaled = drawn ⊗ factor limit drawn
 
-    pub scaled-round : lt (factor limit asked drawn draws) (ratio 1 1) ≡ true → lt scaled (power .0) ≡ true
+    pub scaled-round : lt (factor limit drawn) (ratio 1 1) ≡ true → lt scaled (power .0) ≡ true
         → delivered scaled (withCap (record { 0 = scaled }) asked) ≡ roundAlone limit power s
-    scaled-round f l = round-by (record { 0 = scaled }) scaled (cap-scaled limit asked drawn draws f) (least-second (power .0) scaled l)
+    scaled-round f l = round-by (record { 0 = scaled }) scaled (cap-scaled limit asked charging drawn draws f) (least-second (power .0) scaled l)
 
-    pub plain-round : lt (factor limit asked drawn draws) (ratio 1 1) ≡ false → delivered drawn (withCap (s .rated) asked) ≡ roundAlone limit power s
-    plain-round f = round-by (s .rated) drawn (cap-rated limit asked drawn draws f) draws
+    pub plain-round : lt (factor limit drawn) (ratio 1 1) ≡ false → delivered drawn (withCap (s .rated) asked) ≡ roundAlone limit power s
+    plain-round f = round-by (s .rated) drawn (cap-rated limit asked charging drawn draws f) draws
 
 -- ---- rounds after the first
 
--- a round leaves the cap that its request leads to
+-- who stood idle does not charge
+still-parked : (b : Bool) {P : Type 0} → isCharging (cond b Finished Idle) ≡ true → P
+still-parked true h = absurd (true≢false (sym h))
+still-parked false h = absurd (true≢false (sym h))
+
+-- a round leaves the cap that its request leads to, if the car still charges
 pub cap-matches : (limit : Limit) (power : Kw) (s : ChargerState) → CapMatchesRequest limit (roundAlone limit power s)
-unfolding capAlone afterCharging afterIdling
-cap-matches limit power s = go (s .status)
+unfolding capAlone added capOf afterCharging afterIdling
+cap-matches limit power s = go (s .status) refl
   where
     next : ChargerState
     next = withCap (capAlone limit (withRequest power s)) (withRequest power s)
 
-    go : (status : Status) → CapMatchesRequest limit (progressBy status next)
-    go Free = refl
-    go Charging = refl
-    go Idle = refl
-    go Finished = refl
+    go : (status : Status) → s .status ≡ status → CapMatchesRequest limit (progressBy status next)
+    go Free e h = refl
+    go Charging e h = cap-charging limit (withRequest power s) (rw e) ∙ sym (cap-charging limit (afterCharging next) h)
+    go Idle e h = still-parked (le (next .idle .0 ⊖ ratio 1 1) (ratio 0 1)) h
+    go Finished e h = refl
 
 -- and the same request again changes neither the request nor the cap
-pub same-again : (limit : Limit) (power : Kw) (s : ChargerState) → CapMatchesRequest limit s → power .0 ≡ s .requested .0 → progress s ≡ roundAlone limit power s
+pub same-again : (limit : Limit) (power : Kw) (s : ChargerState) → s .cap ≡ capAlone limit s → power .0 ≡ s .requested .0 → progress s ≡ roundAlone limit power s
 same-again limit power s matches e =
     let asked : withRequest power s ≡ s = ap (λ (x : Float). withRequest (record { 0 = x }) s) e in
     sym (ap (λ (x : ChargerState). progress (withCap (capAlone limit x) x)) asked ∙ ap (λ (c : Kw). progress (withCap c s)) (sym matches))

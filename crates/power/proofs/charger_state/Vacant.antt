@@ -3,6 +3,7 @@ use mathlib.Core.Path.{_≡_, refl}
 use mathlib.Core.Bool.{Bool, true, false, _&&_}
 use mathlib.Core.List.{List, [], _∷_, map}
 use Prim.Native.Nat.{ℕ}
+use lib.Ieee.{Float}
 use Rattle.curve.specs.declared.points.Point.{Point}
 use Rattle.curve.specs.declared.units.Kw.{Kw}
 use Rattle.power.specs.declared.charger_state.Status.{Status}
@@ -10,7 +11,7 @@ use Rattle.power.specs.declared.charger_state.Status.the-variants.{Free,
 use Rattle.power.specs.declared.charger_state.ChargerState.{ChargerState}
 use Rattle.power.specs.declared.power.Limit.{Limit}
 use Rattle.power.specs.ChargerState.{isFree, isFinished, progressBy, progress, allFree}
-use Rattle.power.specs.Power.{active, request, caps, withCaps, allocate, charge}
+use Rattle.power.specs.Power.{active, request, addedBy, caps, withCaps, allocate, charge}
 
 pub free-stays : (status : Status) (s : ChargerState) → isFree status ≡ true → progressBy status s ≡ s
 free-stays Free s h = refl
@@ -23,6 +24,12 @@ free-unfinished Free h = refl
 free-unfinished Charging h = refl
 free-unfinished Idle h = refl
 free-unfinished Finished h = cc
+
+pub free-adds : (sum drawn : Float) (status : Status) → isFree status ≡ true → addedBy sum status drawn ≡ sum
+free-adds sum drawn Free h = refl
+free-adds sum drawn Charging h = cc
+free-adds sum drawn Idle h = refl
+free-adds sum drawn Finished h = refl
 
 pub and-left : (a b : Bool) → (a && b) ≡ true → a ≡ true
 and-left true b h = refl

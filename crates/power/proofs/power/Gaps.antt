@@ -13,11 +13,11 @@ use lib.Ieee.{Float}
 use Rattle.curve.specs.declared.points.Point.{Point}
 use Rattle.power.specs.declared.charger_state.ChargerState.{ChargerState}
 use Rattle.power.specs.declared.power.Limit.{Limit}
-use Rattle.power.specs.ChargerState.{isFree, empty, allFree}
+use Rattle.power.specs.ChargerState.{isFree, draw, empty, allFree}
 use Rattle.power.specs.Power.{active, request, added, total, charge}
 use Rattle.power.specs.Code.Rounds.{anyFinished, spin}
 use Rattle.power.specs.Code.Bank.{stateAt, bank, vacantAt, Stored, Gaps, Cars, Gathered, advanced}
-use Rattle.power.proofs.charger_state.Vacant.{free-stays, free-unfinished, and-left, and-right, free-charge}
+use Rattle.power.proofs.charger_state.Vacant.{free-stays, free-unfinished, free-adds, and-left, and-right, free-charge}
 use Rattle.power.proofs.power.SameCars.{same-free, same-requested, same-charged}
 use Rattle.power.proofs.power.Passes.{Passed, passed-none, passed-more, passed-all, total-append, any-append, length-bank}
 use Rattle.power.proofs.power.PassTurns.{untouched}
@@ -122,7 +122,7 @@ still-advanced factor s h = rw h (free-stays (s .status) s h)
 
 pub sum-same : (z sum : Float) (ss : List ChargerState) (s : ChargerState) → isFree (s .status) ≡ true → sum ≡ total z ss → sum ≡ total z (ss ++ (s ∷ []))
 unfolding added
-sum-same z sum ss s h e = e ∙ rw (total-append z ss (s ∷ []), h)
+sum-same z sum ss s h e = e ∙ rw (total-append z ss (s ∷ [])) (sym (free-adds (total z ss) (draw s) (s .status) h))
 
 pub any-same : (any : Bool) (ss : List ChargerState) (s : ChargerState) → isFree (s .status) ≡ true → any ≡ anyFinished false ss → any ≡ anyFinished false (ss ++ (s ∷ []))
 any-same any ss s h e = e ∙ rw (any-append false ss (s ∷ []), free-unfinished (s .status) h)

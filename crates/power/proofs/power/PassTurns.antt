@@ -9,7 +9,7 @@ use Rattle.power.specs.declared.charger_state.ChargerState.{ChargerState
 use Rattle.power.specs.ChargerState.{isFree, withCap, progress}
 use Rattle.power.specs.Power.{request, added, capOf}
 use Rattle.power.specs.Code.Rounds.{orFinished}
-use Rattle.power.proofs.charger_state.Vacant.{free-stays, free-unfinished}
+use Rattle.power.proofs.charger_state.Vacant.{free-stays, free-unfinished, free-adds}
 use Rattle.power.specs.Code.Bank.{stateAt, Stored, Requested, advanced, Advanced}
 
 pub untouched : (i : ℕ) (F : List (List Float)) (B : List (List ℕ)) {s : ChargerState} → stateAt F B i ≡ s → Stored i s F B F B
@@ -19,7 +19,7 @@ module _ (i : ℕ) (F : List (List Float)) (B : List (List ℕ)) where
   module _ (curve : ℕ → List Point) (sum : Float) where
     pub no-request : isFree (stateAt F B i .status) ≡ true → Requested curve i sum F B F B sum
     unfolding added
-    no-request h = record { state = untouched i F B (simp h); sum-now = simp h }
+    no-request h = record { state = untouched i F B (simp h); sum-now = rw h (sym (free-adds sum _ (stateAt F B i .status) h)) }
 
     pub requested : {F′ : List (List Float)} {B′ : List (List ℕ)} → isFree (stateAt F B i .status) ≡ false → Stored i (request curve (stateAt F B i)) F B F′ B′
         → Requested curve i sum F B F′ B′ (added sum (request curve (stateAt F B i)))

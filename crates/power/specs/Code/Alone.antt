@@ -1,16 +1,17 @@
 -- Refinement: one car alone at the site, whose round needs no pass over the other chargers.
 use mathlib.Core.Path.{_≡_}
-use Rattle.curve.specs.F64.{_⊕_, ratio}
+use mathlib.Core.Bool.{true}
+use Rattle.curve.specs.F64.{ratio}
 use Rattle.curve.specs.declared.units.Kw.{Kw}
 use Rattle.power.specs.declared.charger_state.ChargerState.{ChargerState}
 use Rattle.power.specs.declared.power.Limit.{Limit}
-use Rattle.power.specs.ChargerState.{draw, withRequest, withCap, progress}
-use Rattle.power.specs.Power.{scaling, capOf}
+use Rattle.power.specs.ChargerState.{isCharging, withRequest, withCap, progress}
+use Rattle.power.specs.Power.{added, scaling, capOf}
 
 -- the cap of a car that is alone
 unfoldable pub capAlone : Limit → ChargerState → Kw
-unfolding scaling capOf
-capAlone limit s = capOf (scaling limit (ratio 0 1 ⊕ draw s)) s
+unfolding added scaling capOf
+capAlone limit s = capOf (scaling limit (added (ratio 0 1) s)) s
 
 -- the round of a car that asks for `power`
 abbrev pub roundAlone : Limit → Kw → ChargerState → ChargerState
@@ -18,6 +19,6 @@ roundAlone limit power s =
     let asked = withRequest power s in
     progress (withCap (capAlone limit asked) asked)
 
--- its cap is the one that its request leads to
+-- if it charges, its cap is the one that its request leads to
 abbrev pub CapMatchesRequest : Limit → ChargerState → Type 0
-CapMatchesRequest limit s = s .cap ≡ capAlone limit s
+CapMatchesRequest limit s = isCharging (s .status) ≡ true → s .cap ≡ capAlone limit s

@@ -2,6 +2,7 @@
 use mathlib.Core.Path.{sym, _∙_}
 use lib.Ieee.{ofBits}
 use Rattle.curve.specs.F64.{ratio}
+use Rattle.power.specs.Power.{added}
 use Rattle.power.specs.Code.Alone.{capAlone}
 use Rattle.power.proofs.alone.OneCar.{not-true, least-first, least-second, scaled-round, plain-round}
 use borrow.Author.Needs.{needs}
@@ -91,6 +92,9 @@ returns-3 c =
 draw-requires : tie.Need-draw-requires
 draw-requires c κs = search needs
 
+added-requires : tie.Need-added-requires
+added-requires c κs = search needs
+
 scaling-requires-3 : tie.Need-scaling-requires-3
 scaling-requires-3 c κs = search needs
 
@@ -101,12 +105,13 @@ advanced-requires : tie.Need-advanced-requires
 advanced-requires c κs = search needs
 
 returns-4 : tie.Need-returns-4
-unfolding ofBits ratio capAlone
+unfolding ofBits ratio capAlone added
 returns-4 c =
     let scaled = c .before .before in
-    let drawn = scaled .before in
+    let sum = scaled .before in
+    let drawn = sum .before in
     let asked = drawn .before .before .before .before in
-    rw (c .advanced .ensures, c .before .cap-of .ensures, scaled .scaling3 .ensures, drawn .draw .ensures, asked .with-request .ensures)
+    rw (c .advanced .ensures, c .before .cap-of .ensures, scaled .scaling3 .ensures, sum .added .ensures, drawn .draw .ensures, asked .with-request .ensures)
 
 pub round-spec : {M : Type 1} → statement M
 round-spec =
@@ -126,6 +131,7 @@ round-spec =
     delivered-requires-2
     returns-3
     draw-requires
+    added-requires
     scaling-requires-3
     cap-of-requires
     advanced-requires
