@@ -12,13 +12,11 @@ ghost use mathlib.Core.Bool.{false, _&&_};
 ghost use Prim.Native.Nat.{_+_, _-_, _≤_, _<_};
 ghost use lib.ListN.{replicate};
 ghost use Rattle.charger.specs.Lists.{All};
-ghost use Rattle.charger.specs.Code.Profiles.{curveAt};
 ghost use Rattle.charger.specs.Code.Queue.{waiting};
 ghost use Rattle.charger.specs.Code.Vehicles.{listed};
 ghost use Rattle.engine.specs.Events.{Ordered};
 ghost use Rattle.engine.specs.SiteState.{isEmpty};
 ghost use Rattle.power.specs.ChargerState.{empty, allFree};
-ghost use Rattle.power.specs.Parked.{ParkedDrawNothing};
 ghost use Rattle.power.specs.Code.Bank.{bank, Room, Rising};
 ghost use Rattle.engine.specs.Code.Simulation.{pending, planOf, Sound, InTime};
 ghost use Rattle.engine.specs.Timestep.{ended, run};
@@ -227,7 +225,6 @@ pub fn run(
     requires rising { ⌜ Rising (now curves) (now lens) ⌝ }
     ensures done { λ r. ⌜ RunDone (planOf site rows (now (curves .entry)) (now (lens .entry))) (site .count) allowance (r .time) (r .ended) (r .simulation) (now (floats .exit)) (now (bytes .exit)) ⌝ }
     ensures order { λ r. ⌜ Ordered (pending (r .simulation .events)) ⌝ }
-    ensures parked { λ r. ⌜ ParkedDrawNothing (site .limit) (curveAt (now (curves .entry)) (now (lens .entry))) ⌝ }
 {
     clear_all(floats, bytes, site.count);
     let vehicles = site.vehicles;

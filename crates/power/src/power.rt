@@ -15,6 +15,7 @@ ghost use Prim.Native.Nat.{_+_, _≤_, _<_};
 ghost use Rattle.curve.specs.F64.{ratio};
 ghost use Rattle.charger.specs.Code.Profiles.{curveAt};
 ghost use Rattle.power.specs.Code.Bank.{bank, Room, Rising, Cars, Requested, advanced, Advanced, spun};
+ghost use Rattle.power.specs.Parked.{ParkedDrawNothing};
 ghost use Rattle.power.specs.Power as Spec;
 ghost use Rattle.power.specs.Code.Rounds as Rounds;
 
@@ -175,6 +176,7 @@ fn charge(
     requires rising { ⌜ Rising (now curves) (now lens) ⌝ }
     ensures moved { λ r. ⌜ bank n (now (floats .exit)) (now (bytes .exit)) ≡ Spec.charge limit (curveAt (now (curves .entry)) (now (lens .entry))) (bank n (now (floats .entry)) (now (bytes .entry))) ⌝ }
     ensures any { λ r. ⌜ r ≡ Rounds.anyFinished false (bank n (now (floats .exit)) (now (bytes .exit))) ⌝ }
+    ensures parked { λ r. ⌜ ParkedDrawNothing limit (curveAt (now (curves .entry)) (now (lens .entry))) (bank n (now (floats .entry)) (now (bytes .entry))) (bank n (now (floats .exit)) (now (bytes .exit))) ⌝ }
 {
     let sum = request_power(floats, bytes, n, busy, curves, lens, segments);
     advance(floats, bytes, n, busy, scaling(limit, sum))

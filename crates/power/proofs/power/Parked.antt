@@ -1,5 +1,5 @@
--- The cars that charge have the caps that they would have with nobody else at the site.
-use mathlib.Core.Path.{_≡_, refl, sym, ap, _∙_}
+-- A round leaves the cars that charge as it would with nobody else at the site.
+use mathlib.Core.Path.{_≡_, refl, ap, _∙_}
 use mathlib.Core.Bool.{Bool, true, false, cond}
 use mathlib.Core.List.{List, [], _∷_, map}
 use Prim.Native.Nat.{ℕ}
@@ -8,17 +8,9 @@ use Rattle.curve.specs.F64.{ratio}
 use Rattle.curve.specs.declared.points.Point.{Point}
 use Rattle.power.specs.declared.charger_state.ChargerState.{ChargerState}
 use Rattle.power.specs.declared.power.Limit.{Limit}
-use Rattle.power.specs.ChargerState.{isFree, isCharging, withCap}
-use Rattle.power.specs.Power.{active, request, addedBy, added, total, scaling, capOf, caps, withCaps, allocate}
-use Rattle.power.specs.Parked.{charging, capSum, ParkedDrawNothing}
-
--- a change of the car leaves a car that does not charge as one that does not
-status-kept : (change : ChargerState → ChargerState) → ((s : ChargerState) → change s .status ≡ s .status) → (s : ChargerState) → active change s .status ≡ s .status
-status-kept change kept s = go (isFree (s .status))
-  where
-    go : (b : Bool) → (cond b s (change s)) .status ≡ s .status
-    go true = refl
-    go false = kept s
+use Rattle.power.specs.ChargerState.{isFree, isCharging, withCap, progress}
+use Rattle.power.specs.Power.{active, request, added, total, scaling, capOf, caps, withCaps, allocate, charge}
+use Rattle.power.specs.Parked.{charging, charged, capSum, ParkedDrawNothing}
 
 -- it charges, or it does not
 by-charging : {P : Type 0} (s : ChargerState) → (isCharging (s .status) ≡ true → P) → (isCharging (s .status) ≡ false → P) → P
@@ -38,21 +30,17 @@ adds-nothing : (z : Float) (s : ChargerState) → isCharging (s .status) ≡ fal
 unfolding added
 adds-nothing z s h = rw h
 
--- ---- the sum of the caps
-
-cap-sum : (z : Float) (ss : List ChargerState) → capSum z ss ≡ capSum z (charging ss)
-cap-sum z [] = refl
-cap-sum z (s ∷ ss) = by-charging s (λ h. rw (goes-on s ss h) (cap-sum (addedBy z (s .status) (s .cap .0)) ss)) (λ h. rw h (cap-sum z ss))
-
--- ---- the power rule
-
 module _ (curve : ℕ → List Point) where
   abbrev asked : ChargerState → ChargerState
   asked = active (request curve)
 
   asked-status : (s : ChargerState) → asked s .status ≡ s .status
   unfolding request
-  asked-status = status-kept (request curve) (λ s. refl)
+  asked-status s = go (isFree (s .status))
+    where
+      go : (b : Bool) → (cond b s (request curve s)) .status ≡ s .status
+      go true = refl
+      go false = refl
 
   same-total : (z : Float) (ss : List ChargerState) → total z (map asked ss) ≡ total z (map asked (charging ss))
   same-total z [] = refl
@@ -62,33 +50,20 @@ module _ (curve : ℕ → List Point) where
       (λ h. rw (rests s ss h) (ap (λ x. total x (map asked ss)) (adds-nothing z (asked s) (ap isCharging (asked-status s) ∙ h)) ∙ same-total z ss))
 
   module _ (factor : Float) where
-    abbrev capped : ChargerState → ChargerState
-    capped s = active (withCap (capOf factor (asked s))) (asked s)
+    abbrev advanced : List ChargerState → List ChargerState
+    advanced ss = map progress (withCaps (map (capOf factor) (map asked ss)) (map asked ss))
 
-    abbrev allCapped : List ChargerState → List ChargerState
-    allCapped ss = withCaps (map (capOf factor) (map asked ss)) (map asked ss)
-
-    capped-status : (s : ChargerState) → capped s .status ≡ s .status
-    capped-status s = status-kept (withCap (capOf factor (asked s))) (λ x. refl) (asked s) ∙ asked-status s
-
-    same-capped : (ss : List ChargerState) → charging (allCapped ss) ≡ allCapped (charging ss)
-    same-capped [] = refl
-    same-capped (s ∷ ss) =
+    same-advanced : (ss : List ChargerState) → charged ss (advanced ss) ≡ advanced (charging ss)
+    same-advanced [] = refl
+    same-advanced (s ∷ ss) =
         by-charging s
-        (λ h. rw (goes-on s ss h) (goes-on (capped s) (allCapped ss) (ap isCharging (capped-status s) ∙ h) ∙ ap (λ l. capped s ∷ l) (same-capped ss)))
-        (λ h. rw (rests s ss h) (rests (capped s) (allCapped ss) (ap isCharging (capped-status s) ∙ h) ∙ same-capped ss))
+        (λ h. rw (goes-on s ss h, h) (ap (λ l. progress (active (withCap (capOf factor (asked s))) (asked s)) ∷ l) (same-advanced ss)))
+        (λ h. rw (rests s ss h, h) (same-advanced ss))
 
   module _ (limit : Limit) where
-    by-themselves : (ss : List ChargerState) → charging (allocate limit curve ss) ≡ allocate limit curve (charging ss)
+    by-themselves : (ss : List ChargerState) → charged ss (charge limit curve ss) ≡ charge limit curve (charging ss)
     unfolding allocate caps
-    by-themselves ss = rw (same-total (ratio 0 1) ss) (same-capped (scaling limit (total (ratio 0 1) (map asked (charging ss)))) ss)
+    by-themselves ss = rw (same-total (ratio 0 1) ss) (same-advanced (scaling limit (total (ratio 0 1) (map asked (charging ss)))) ss)
 
-    pub parked-draw-nothing : ParkedDrawNothing limit curve
-    parked-draw-nothing ss ts same =
-        let cars : charging (allocate limit curve ss) ≡ charging (allocate limit curve ts) =
-        by-themselves ss ∙ ap (allocate limit curve) same ∙ sym (by-themselves ts)
-        in
-        record {
-          cars = cars;
-          sum = cap-sum (ratio 0 1) (allocate limit curve ss) ∙ ap (capSum (ratio 0 1)) cars ∙ sym (cap-sum (ratio 0 1) (allocate limit curve ts));
-        }
+    pub parked-draw-nothing : (ss : List ChargerState) → ParkedDrawNothing limit curve ss (charge limit curve ss)
+    parked-draw-nothing ss = record { cars = by-themselves ss; sum = ap (capSum (ratio 0 1)) (by-themselves ss) }

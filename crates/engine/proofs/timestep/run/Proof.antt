@@ -12,7 +12,6 @@ use Rattle.engine.proofs.plug_in.Handling.{room-kept}
 use Rattle.engine.proofs.timestep.Begins.{fit-start}
 use Rattle.engine.proofs.timestep.InOrder.{ordered}
 use Rattle.engine.proofs.timestep.LoopRun.{finishes}
-use Rattle.power.proofs.power.Parked.{parked-draw-nothing}
 use borrow.Author.Needs.{needs}
 use Rattle.engine.proofs.timestep.run.Statement.{statement}
 use Rattle.engine.proofs.timestep.run.Tie as tie
@@ -58,7 +57,7 @@ returns c =
     let a = start .args in
     let p = planOf (a .site) (a .rows) (now (a .curves)) (now (a .lens)) in
     let done = finishes p (a .site .count) (a .allowance) (few start) (c .before .before .before .before .before .new .ensures) (c .before .before .before .before .before .before .before .before .before .clear-all .ensures) (c .before .before .rounds .ensures) in
-    (done, (subst (λ (m : State). Ordered (m .site .pending)) (sym (done .state)) (ordered p (a .allowance)), parked-draw-nothing (p .curve) (a .site .limit)))
+    (done, subst (λ (m : State). Ordered (m .site .pending)) (sym (done .state)) (ordered p (a .allowance)))
 
 pub run-spec : {M : Type 1} → statement M
 run-spec =

@@ -1,6 +1,7 @@
 -- `power::power::charge` meets its contract.
 use Rattle.power.proofs.power.Passes.{both}
 use Rattle.power.proofs.power.Gaps.{cars-requested}
+use Rattle.power.proofs.power.Parked.{parked-draw-nothing}
 use borrow.Author.Needs.{needs}
 use Rattle.power.proofs.power.charge.Statement.{statement}
 use Rattle.power.proofs.power.charge.Tie as tie
@@ -27,10 +28,9 @@ returns : tie.Need-returns
 returns c =
     let at-advance = c .before .before in
     let at-scaling = at-advance .before in
-    let at-request = at-scaling .before .before .before .before .before in (
-      both _ _ _ (at-request .request-power .ensures .0) (at-request .request-power .ensures .1) (at-scaling .scaling .ensures) (at-advance .advance .ensures .0),
-      at-advance .advance .ensures .1,
-    )
+    let at-request = at-scaling .before .before .before .before .before in
+    let moved = both _ _ _ (at-request .request-power .ensures .0) (at-request .request-power .ensures .1) (at-scaling .scaling .ensures) (at-advance .advance .ensures .0) in
+    (moved, (at-advance .advance .ensures .1, rw moved (parked-draw-nothing _ _ _)))
 
 pub charge-spec : {M : Type 1} → statement M
 charge-spec =

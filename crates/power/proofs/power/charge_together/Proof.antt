@@ -50,7 +50,7 @@ returns c =
     let at-call = c .before .before .before in
     let at-loop = at-call .before .before .before .before .before in
     let moved = at-call .charge .ensures .0 in
-    rw moved (sym (spin-finished _ _ (at-loop .loop .k) _ _ (omega arith) (rw moved at (sym (at-call .charge .ensures .1) ∙ c .if1 .taken))) ∙ at-loop .loop .inv .3)
+    rw moved (sym (spin-finished _ _ (at-loop .loop .k) _ _ (omega arith) (rw moved at (sym (at-call .charge .ensures .1 .0) ∙ c .if1 .taken))) ∙ at-loop .loop .inv .3)
 
 add-k : tie.Need-add-k Inv-loop μ-loop
 add-k c = omega arith
@@ -67,7 +67,7 @@ loop-again c =
       omega arith,
       at-call .charge .kept .0 ∙ inv .1,
       at-call .charge .kept .1 .0 ∙ inv .2,
-      rw moved (sym (spin-more _ _ (at-loop .loop .k) _ _ (omega arith) (rw moved at (sym (at-call .charge .ensures .1) ∙ c .if1 .left))) ∙ inv .3),
+      rw moved (sym (spin-more _ _ (at-loop .loop .k) _ _ (omega arith) (rw moved at (sym (at-call .charge .ensures .1 .0) ∙ c .if1 .left))) ∙ inv .3),
       cars-charged _ (inv .4) _ moved,
     )
 
