@@ -1,4 +1,5 @@
 """Descriptions: what they mean, and what is said of those that cannot be read."""
+import struct
 import unittest
 from pathlib import Path
 
@@ -63,6 +64,11 @@ class Reading(unittest.TestCase):
         for written in ["CCS1, CCS2, CHAdeMO, GB/T, NACS", "ccs1 ccs2 chademo gb/t nacs", "CCS1,CCS2 CHADEMO,GBT, nacs"]:
             self.assertEqual(data_of(f"charger 1 power 50 current 1200 voltage 400 connectors {written}"), wanted)
 
+    def test_leads_have_their_caps_by_code(self):
+        data = data_of(f"{CHARGER} CCS2 NACS leads nacs:63 A CCS2:125.5A chademo:1")
+        self.assertEqual(struct.unpack("<5d", data[512 + 40 : 512 + 80]), (0, 125.5, 1, 0, 63))
+        self.assertEqual(data_of(CHARGER)[512 + 40 : 512 + 508], bytes(468))
+
     def test_marks_comments_and_line_ends_do_not_count(self):
         wanted = data_of(*SITE)
         windows = b"\xef\xbb\xbf" + "\r\n".join(["# a site", ""] + [line + "  # so" for line in SITE]).encode()
@@ -89,7 +95,7 @@ class Faults(unittest.TestCase):
     def test_unknown_words(self):
         self.expect("cabinet 2 power 50", "cabinet", "limit, profile, charger, vehicle")
         self.expect("Charger 2 power 50", "Charger", "unknown kind")
-        self.expect("charger 2 watts 50", "watts", "a charger has power, current, voltage, connectors")
+        self.expect("charger 2 watts 50", "watts", "a charger has power, current, voltage, connectors, leads")
         self.expect("charger 2 battery 50", "battery", "unknown field")
         self.expect("charger 2 power 50 watts 3", "watts", "neither a field of this line nor kW, the unit of power")
         self.expect("vehicle 2 profile 1 queue 3 colour red", "colour", "no field of this line")
@@ -153,6 +159,14 @@ class Faults(unittest.TestCase):
         self.expect("profile 2 points :5", ":5", "a point is SOC:power")
         self.expect("profile 2 points 0.5", "0.5", "a point is SOC:power")
         self.expect("profile 2 points 0.5:5:5", "5:5", "a number")
+
+    def test_leads(self):
+        self.expect("charger 2 leads", "leads", "missing")
+        self.expect("charger 2 leads CCS2", "CCS2", "a lead is connector:current")
+        self.expect("charger 2 leads CCS3:100", "CCS3", "no connector")
+        self.expect("charger 2 leads CCS2:100 ccs2:90", "ccs2:90", "named already")
+        self.expect("charger 2 leads CCS2:0", "0", "from 1 to 4096 A")
+        self.expect("charger 2 leads CCS2:100V", "100V", "is in A")
 
     def test_whole_numbers(self):
         self.expect("vehicle 2 arrival 1.5", "1.5", "whole number")

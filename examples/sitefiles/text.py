@@ -168,6 +168,21 @@ def code_of(name):
     return known.index(plain_name) + 1
 
 
+def leads(name, words):
+    """What some leads carry at most, by the code of their connector; 0 for those that are not named."""
+    caps = [0.0] * len(CONNECTORS)
+    need(name, words, 1)
+    while words:
+        connector, colon, cap = words[0].partition(":")
+        if not (connector and colon and cap):
+            raise Fault(words[0], "a lead is connector:current, as CCS2:125")
+        place = code_of(connector) - 1
+        if caps[place]:
+            raise Fault(words[0], "this lead is named already")
+        caps[place], words = take_number("the current of a lead", [cap, *words[1:]], CURRENT)
+    return caps
+
+
 def need(name, words, count):
     if not words:
         raise Fault(name, "its value is missing" if count == 1 else f"it needs {count} values")
@@ -183,7 +198,7 @@ def no_more(name, words, measure):
 
 FIELDS = {
     "profile": {"battery": one(BATTERY), "points": points},
-    "charger": {"power": one(POWER), "current": one(CURRENT), "voltage": one(VOLTAGE), "connectors": connectors},
+    "charger": {"power": one(POWER), "current": one(CURRENT), "voltage": one(VOLTAGE), "connectors": connectors, "leads": leads},
     "vehicle": {
         "profile": one(ID),
         "connectors": connectors,
@@ -194,6 +209,9 @@ FIELDS = {
         "queue": one(QUEUE),
     },
 }
+
+# Fields that a line may leave out, with what they are then.
+DEFAULTS = {"charger": {"leads": [0.0] * len(CONNECTORS)}}
 
 
 # ---- the bodies of the blocks
@@ -207,8 +225,8 @@ def profile_body(id, battery, points):
     return struct.pack("<IHxxd", id, len(points), battery) + b"".join(struct.pack("<dd", *point) for point in points)
 
 
-def charger_body(id, power, current, voltage, connectors):
-    return struct.pack("<I6s6xddd", id, code_bytes(connectors), power, current, voltage)
+def charger_body(id, power, current, voltage, connectors, leads):
+    return struct.pack("<I6s6xddd5d", id, code_bytes(connectors), power, current, voltage, *leads)
 
 
 def vehicle_body(id, profile, connectors, soc, idle, arrival, wait, queue):
@@ -291,7 +309,8 @@ class Reader:
 def field_values(kind, id, words):
     """The values of a line's fields, by name."""
     given = words_of_fields(kind, words)
-    values = {name: FIELDS[kind][name](name, field_words) for name, field_words in given.items()}
+    read = {name: FIELDS[kind][name](name, field_words) for name, field_words in given.items()}
+    values = DEFAULTS.get(kind, {}) | read
     missing = [name for name in FIELDS[kind] if name not in values]
     if missing:
         raise Fault(f"{kind} {id}", f"missing: {', '.join(missing)}")

@@ -16,7 +16,7 @@ pub const fn change(file: &'static str, old: &'static str, new: &'static str) ->
 const STD_HEAP: &str = "use std::collections::BinaryHeap;\n";
 const STAND_IN_HEAP: &str = "use binary_heap::BinaryHeap;\n";
 
-pub const CHANGES: [Change; 15] = [
+pub const CHANGES: [Change; 20] = [
     // The stand-in for the heap, and what it pops by, which is request 4's. (The map's stand-in takes the crate's own name.)
     change("containers/vehicle_list.rs", STD_HEAP, STAND_IN_HEAP),
     change("evse/charger.rs", STD_HEAP, STAND_IN_HEAP),
@@ -48,6 +48,43 @@ impl PartialOrd for Event {
             if matches!(charger_state.status, ChargerStatus::Charging) {
                 total_requested_power_kw += requested_power_kw.min(charger_max_power_kw);
             }
+",
+    ),
+    // Request 8: a charger serves a vehicle by the current of its lead.
+    change(
+        "evse/charger.rs",
+        "    pub is_busy: bool,\n",
+        "    pub is_busy: bool,\n    pub lead_currents_a: [f64; 5],\n",
+    ),
+    change(
+        "evse/charger.rs",
+        "        let max_power_kw = self.actual_max_power_kw();\n",
+        "        self.take_lead(vehicle);\n        let max_power_kw = self.actual_max_power_kw();\n",
+    ),
+    change(
+        "evse/charger.rs",
+        "    ) -> ChargerState {\n",
+        "    ) -> ChargerState {\n        self.take_lead(vehicle);\n",
+    ),
+    change(
+        "evse/charger.rs",
+        "const DEFAULT_MAX_POWER_KW: f64 = 480.0;\n",
+        "impl Charger {
+    pub fn take_lead(&mut self, vehicle: &Vehicle) {
+        if let Some(connector) = self.resolve_connector(&vehicle.connectors) {
+            self.max_current_a = self.lead_currents_a[connector as usize];
+        }
+    }
+}
+
+const DEFAULT_MAX_POWER_KW: f64 = 480.0;
+",
+    ),
+    change(
+        "evse/charger.rs",
+        "            is_busy: false,\n",
+        "            is_busy: false,
+            lead_currents_a: [self.max_current_a.unwrap_or(DEFAULT_MAX_CURRENT_A); 5],
 ",
     ),
     // The builder of vehicles samples; the oracle makes vehicles from the plan.

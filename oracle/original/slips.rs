@@ -1,7 +1,7 @@
 //! Slips, each one further change, for a copy that the comparison must tell from the original.
 use crate::changes::{Change, change};
 
-pub const SLIPS: [(&str, Change); 19] = [
+pub const SLIPS: [(&str, Change); 21] = [
     // The order of one second.
     (
         "arrivals-before-unplugs",
@@ -112,7 +112,24 @@ pub const SLIPS: [(&str, Change); 19] = [
             "charger_state.current_soc > charger_state.target_soc",
         ),
     ),
-    // The cap. The first two leave request 13's law as it is: what they make of the cap still rises with it.
+    // The current of a lead.
+    (
+        "neighbouring-lead",
+        change(
+            "evse/charger.rs",
+            "self.lead_currents_a[connector as usize]",
+            "self.lead_currents_a[(connector as usize + 1) % 5]",
+        ),
+    ),
+    (
+        "lead-by-events-only",
+        change(
+            "evse/charger.rs",
+            "    ) -> ChargerState {\n        self.take_lead(vehicle);\n",
+            "    ) -> ChargerState {\n",
+        ),
+    ),
+    // The cap on the power. The first two leave request 13's law as it is: what they make of the cap still rises with it.
     (
         "caps-after-the-average",
         change(

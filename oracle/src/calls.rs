@@ -47,7 +47,7 @@ fn arguments(engine: u32, allowance: u32, book: usize) -> Result<(), Refusal> {
 }
 
 fn accepted(bytes: &[u8]) -> Result<Accepted, Refusal> {
-    let accepted = Accepted::new(plan::read(bytes)?);
+    let mut accepted = Accepted::new(plan::read(bytes)?);
     accepted.pairs_charge()?;
     Ok(accepted)
 }
@@ -69,23 +69,16 @@ impl Accepted {
     }
 
     /// Refusal 12: the lowest vehicle that has a failing charger, and for it the lowest such charger.
-    fn pairs_charge(&self) -> Result<(), Refusal> {
+    fn pairs_charge(&mut self) -> Result<(), Refusal> {
         for (v, vehicle) in self.vehicles.iter().enumerate() {
-            for (c, charger) in self.chargers.iter().enumerate() {
-                if charger.resolve_connector(&vehicle.connectors).is_some() && !self.charges(vehicle, charger) {
+            let profile = &self.profiles[vehicle.charge_profile_id.place()];
+            for (c, charger) in self.chargers.iter_mut().enumerate() {
+                if charger.resolve_connector(&vehicle.connectors).is_some() && !charges(vehicle, profile, charger) {
                     return Err(Refusal::new(12, self.plan.vehicle_block(v), self.plan.charger_block(c)));
                 }
             }
         }
         Ok(())
-    }
-
-    fn charges(&self, vehicle: &Vehicle, charger: &Charger) -> bool {
-        let profile = &self.profiles[vehicle.charge_profile_id.place()];
-        let output = profile
-            .integrate_over(vehicle.soc_start, vehicle.soc_target, charger.actual_max_power_kw())
-            .expect("a profile has points");
-        (0.0..=LONGEST_STAY).contains(&output.duration_s)
     }
 
     fn run(self, engine: u32, allowance: u32, book: &mut [u8]) -> Numbers {
@@ -108,6 +101,14 @@ impl Accepted {
             answer(&plan, 1, used, simulation.ended(), counts, simulation.get_sessions(), book)
         }
     }
+}
+
+fn charges(vehicle: &Vehicle, profile: &ChargeProfile, charger: &mut Charger) -> bool {
+    charger.take_lead(vehicle);
+    let output = profile
+        .integrate_over(vehicle.soc_start, vehicle.soc_target, charger.actual_max_power_kw())
+        .expect("a profile has points");
+    (0.0..=LONGEST_STAY).contains(&output.duration_s)
 }
 
 fn charge_profile(place: usize, block: &plan::Profile) -> ChargeProfile {
@@ -138,7 +139,13 @@ fn charger(place: usize, block: &plan::Charger) -> Charger {
         voltage: block.voltage,
         connectors: connectors(&block.codes),
         is_busy: false,
+        lead_currents_a: lead_currents(block),
     }
+}
+
+/// Request 8: the smaller of a lead's cap, where it has one, and the charger's current.
+fn lead_currents(block: &plan::Charger) -> [f64; 5] {
+    block.caps.map(|cap| if cap == 0.0 { block.current } else { cap.min(block.current) })
 }
 
 fn vehicle(place: usize, block: &plan::Vehicle) -> Vehicle {

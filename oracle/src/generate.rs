@@ -23,7 +23,7 @@ pub struct Case {
 type Shape = (&'static str, u64, fn(&mut Draw) -> Case);
 
 /// Each shape with its weight.
-pub const SHAPES: [Shape; 19] = [
+pub const SHAPES: [Shape; 20] = [
     ("few", 8, |d| good(d, FEW)),
     ("contention", 14, |d| good(d, CONTENTION)),
     ("ties at one second", 16, |d| good(d, TIES)),
@@ -35,6 +35,7 @@ pub const SHAPES: [Shape; 19] = [
     ("SOC at points", 6, |d| good(d, Style { soc: Soc::AtPoints, points: [2, 8], ..FEW })),
     ("subnormal SOC", 4, |d| good(d, Style { soc: Soc::Subnormal, points: [1, 6], ..FEW })),
     ("connectors", 6, |d| good(d, Style { connectors: true, chargers: [1, 4], ..CONTENTION })),
+    ("amps by lead", 10, |d| good(d, Style { connectors: true, caps: true, chargers: [1, 4], ..CONTENTION })),
     ("empty", 2, empty),
     ("largest", 1, |d| good(d, LARGEST)),
     ("far times", 1, |d| good(d, Style { clock: Clock::Far, ..FEW })),

@@ -37,7 +37,12 @@ pub struct Charger {
     pub max_power: f64,
     pub current: f64,
     pub voltage: f64,
+    /// Request 8: by connector code, 0 where the lead has no cap.
+    pub caps: [f64; 5],
 }
+
+/// Where the caps of the leads stand, by connector code.
+pub const CAPS: [usize; 5] = [40, 48, 56, 64, 72];
 
 #[derive(Debug)]
 pub struct Vehicle {
@@ -204,7 +209,8 @@ fn charger_fields(block: &[u8]) -> bool {
         && within(block, 16, 0.125, 1_024.0)
         && within(block, 24, 1.0, 4_096.0)
         && within(block, 32, 1.0, 4_096.0)
-        && zero(&block[40..CHECK])
+        && CAPS.iter().all(|&at| zero(&block[at..at + 8]) || within(block, at, 1.0, 4_096.0))
+        && zero(&block[80..CHECK])
 }
 
 fn vehicle_fields(block: &[u8]) -> bool {
@@ -252,6 +258,7 @@ fn plan_of(blocks: &Blocks) -> Plan {
         max_power: f64_at(block, 16),
         current: f64_at(block, 24),
         voltage: f64_at(block, 32),
+        caps: CAPS.map(|at| f64_at(block, at)),
     };
     let vehicle = |(_, block): (usize, &[u8])| Vehicle {
         id: u32_at(block, 0),

@@ -3,6 +3,7 @@ use crate::blocks::{BLOCK, Block, f64_at, put, put_f64, u32_at, u64_at};
 use crate::book::LEAST_BOOK;
 use crate::draft::{Draft, points, set_points};
 use crate::generate::Case;
+use crate::plan::CAPS;
 
 /// The smallest case found by greedy steps, each of which keeps `differs` true.
 pub fn shrink(mut case: Case, differs: impl Fn(&Case) -> bool) -> Case {
@@ -194,6 +195,9 @@ fn plainer_blocks(draft: &Draft, k: usize, block: &Block) -> Vec<Block> {
         plainer.extend(plainer_float(block, 16, &powers));
         plainer.extend(plainer_float(block, 24, &[1_000.0]));
         plainer.extend(plainer_float(block, 32, &[1_000.0]));
+        for at in CAPS {
+            plainer.extend(plainer_float(block, at, &[0.0, 1.0]));
+        }
     } else {
         plainer.extend(plainer_word(block, 0, &ids));
         plainer.extend(fewer_codes(block, 8));

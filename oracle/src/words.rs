@@ -3,6 +3,7 @@ use crate::blocks::{BLOCK, CHECK, check_of, f64_at, u16_at, u32_at, u64_at};
 use crate::book::{self, LEAST_BOOK};
 use crate::draft::{Draft, points};
 use crate::generate::Case;
+use crate::plan::CAPS;
 use std::fmt::Write;
 
 pub fn describe(case: &Case) -> String {
@@ -56,13 +57,14 @@ fn parts(draft: &Draft) -> String {
     for block in &draft.chargers {
         let _ = writeln!(
             text,
-            "  charger {}: {} codes {:?}, {:?} kW, {:?} A, {:?} V",
+            "  charger {}: {} codes {:?}, {:?} kW, {:?} A, {:?} V, caps {:?} A",
             u32_at(block, 0),
             block[4],
             &block[5..10],
             f64_at(block, 16),
             f64_at(block, 24),
-            f64_at(block, 32)
+            f64_at(block, 32),
+            CAPS.map(|at| f64_at(block, at))
         );
     }
     for block in &draft.vehicles {

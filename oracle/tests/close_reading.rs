@@ -130,6 +130,83 @@ mod parked_cars {
     }
 }
 
+/// Request 8: a lead may carry less than its charger.
+mod amps_by_lead {
+    use super::*;
+
+    const NACS: usize = 5;
+    const CCS2: usize = 2;
+
+    /// The bay, whose charger has NACS alone and gives 50 kW at 125 A, with a cap.
+    fn capped(code: usize, cap: f64) -> Draft {
+        let mut draft = bay(&[Car::default()]);
+        put_f64(&mut draft.chargers[0], 40 + 8 * (code - 1), cap);
+        draft
+    }
+
+    #[test]
+    fn the_current_is_the_smaller_of_cap_and_charger() {
+        for engine in [events, steps] {
+            let peak = |cap| engine(&capped(NACS, cap)).of(1).peak;
+            assert_eq!(peak(100.0), Some(40.0));
+            for cap in [125.0, 126.0, 1_200.0, 4_096.0, 0.0] {
+                assert_eq!(peak(cap), Some(50.0));
+            }
+        }
+        let ran = events(&capped(NACS, 100.0));
+        assert_eq!((ran.of(1).duration, ran.of(1).unplug, ran.of(1).energy), (Some(2_250.0), Some(2_470), Some(25.0)));
+    }
+
+    #[test]
+    fn the_cap_is_that_of_the_lead_in_use() {
+        let codes = [CCS2 as u8, NACS as u8];
+        let peak = |code| {
+            let mut draft = capped(code, 100.0);
+            draft.chargers[0][4] = 2;
+            put(&mut draft.chargers[0], 5, &codes);
+            draft.vehicles[0] = Car { id: 1, codes: codes.to_vec(), ..Car::default() }.block();
+            [events(&draft), steps(&draft)].map(|ran| (ran.of(1).connector, ran.of(1).peak.unwrap()))
+        };
+        assert_eq!(peak(CCS2), [(Some(CCS2 as u8), 40.0); 2]);
+        for code in [1, 3, 4, NACS] {
+            assert_eq!(peak(code), [(Some(CCS2 as u8), 50.0); 2]);
+        }
+    }
+
+    #[test]
+    fn a_lead_that_the_charger_has_not_may_have_a_cap() {
+        assert_eq!(events(&capped(CCS2, 1.0)).of(1).peak, Some(50.0));
+    }
+
+    #[test]
+    fn the_pair_check_goes_by_the_cap() {
+        let mut draft = capped(NACS, 1.0);
+        draft.vehicles[0] = Car { id: 1, start: 0.0, target: 1.0, ..Car::default() }.block();
+        for (battery, number) in [(67.0, 0), (68.0, 12)] {
+            draft.profiles[0] = profile(1, battery, &[(0.5, 50.0)]);
+            assert_eq!(checked(&draft.bytes())[0], number);
+        }
+    }
+
+    #[test]
+    fn a_cap_is_zero_bytes_or_within_its_limits() {
+        for code in 1..=5 {
+            for cap in [0.0, 1.0, 1.0_f64.next_up(), 4_096.0, 4_096.0_f64.next_down()] {
+                assert_eq!(checked(&capped(code, cap).bytes()), [0; 3]);
+            }
+            let [below, above] = [1.0_f64.next_down(), 4_096.0_f64.next_up()];
+            for cap in [-0.0, 5e-324, 0.5, below, above, -1.0, f64::NAN, f64::INFINITY, f64::NEG_INFINITY] {
+                assert_eq!(checked(&capped(code, cap).bytes()), [7, 3, 0]);
+            }
+        }
+        for at in [80, 507] {
+            let mut draft = capped(NACS, 1.0);
+            draft.chargers[0][at] = 1;
+            assert_eq!(checked(&draft.bytes()), [7, 3, 0]);
+        }
+    }
+}
+
 mod the_step_engine {
     use super::*;
 

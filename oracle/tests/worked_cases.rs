@@ -69,6 +69,7 @@ fn caps_of(power: f64, limit: f64, second: ChargerStatus) -> [f64; 2] {
         name: String::new(),
         max_power_kw: 50.0,
         max_current_a: 1_200.0,
+        lead_currents_a: [1_200.0; 5],
         voltage: 400.0,
         connectors: vec![ConnectorType::Nacs],
         is_busy: true,

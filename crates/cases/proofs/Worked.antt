@@ -2,12 +2,12 @@
 use Prim.Native.Nat.{ℕ}
 use mathlib.Core.Path.{_≡_, refl, ap, _∙_}
 use mathlib.Core.List.{List, _∷_}
-use lib.Ieee.{ofBits, lt, le, ne, add, sub, mul, div, ofInt, toUnsigned}
-use Rattle.curve.specs.F64.{ceiling}
+use lib.Ieee.{ofBits, eq, lt, le, ne, add, sub, mul, div, ofInt, toUnsigned}
+use Rattle.curve.specs.F64.{ratio, ceiling}
 use Rattle.curve.specs.Curve.{integrateOver, curveOf}
 use Rattle.charger.specs.Lists.{All, none, also}
 use Rattle.charger.specs.Vehicle.{compatible}
-use Rattle.charger.specs.Charger.{actualMaxPower}
+use Rattle.charger.specs.Charger.{noCharger, capOf, actualMaxPower}
 use Rattle.engine.specs.Plan.{Plan, chargerAt, fits, rated, output, stay}
 use Rattle.engine.specs.Events.{before}
 use Rattle.engine.specs.SiteState.{balks, uncharged, startCharging}
@@ -19,7 +19,7 @@ use Rattle.engine.specs.Timestep.{openSession, plugged, finalized, round}
 use Rattle.engine.specs.Demand.{Stop}
 use Rattle.plan.specs.Blocks.{passes, block}
 use Rattle.plan.specs.Search.{firstIndex, every, each}
-use Rattle.plan.specs.Fields.{bytesIn, connectorsOk, pointCount, pointOk}
+use Rattle.plan.specs.Fields.{bytesIn, connectorsOk, capOk, pointCount, pointOk}
 use Rattle.plan.specs.Places.{kindAt}
 use Rattle.plan.specs.Plan.{idAt, withId, newSoc, firstRefusal, lengthOk, checkBlocks}
 use Rattle.files.specs.Read.{readPlan, pointsOf, curveOfProfile, batteryOf, chargersOf, connectorRows, profileIndex, vehicleOf, vehicleIn, vehiclesOf, limitOf}
@@ -28,8 +28,9 @@ use Rattle.files.specs.Check.{checkPlan}
 use Rattle.files.specs.Call.{stopOf}
 use Rattle.plan.specs.declared.answer.Answer.{Answer}
 use Rattle.plan.specs.declared.answer.Answer.the-variants.{Fine, Refused}
-use Rattle.plan.specs.declared.answer.Refusal.the-variants.{CannotCharge}
-use Rattle.cases.specs.Bay.{kwh, Bay, plan, bay, secondCar, atTarget, atOneKw}
+use Rattle.plan.specs.declared.answer.Refusal.the-variants.{Broken, CannotCharge}
+use Rattle.plan.specs.declared.answer.Rule.the-variants.{Field}
+use Rattle.cases.specs.Bay.{kwh, Bay, plan, bay, secondCar, atTarget, atOneKw, nacsCapped}
 use Rattle.cases.specs.Cases.{events, steps, run, Result, ifFine, result, Worked, _gives_, Holds, worked}
 
 -- ---- a plan's bytes read, checked and run; each line `unfolding` has all that it computes by
@@ -37,11 +38,11 @@ use Rattle.cases.specs.Cases.{events, steps, run, Result, ifFine, result
 read : Bay → Plan
 unfolding plan block firstIndex each idAt withId pointCount
     pointsOf curveOfProfile batteryOf chargersOf connectorRows profileIndex vehicleOf vehicleIn vehiclesOf limitOf
-    chargerAt compatible actualMaxPower integrateOver curveOf ofBits lt le ne add sub mul div
+    chargerAt noCharger compatible capOf actualMaxPower integrateOver curveOf ofBits eq lt le ne add sub mul div
 read b = readPlan (plan b)
 
 check : Bay → Answer
-unfolding read passes every bytesIn connectorsOk pointOk newSoc kindAt firstRefusal lengthOk checkBlocks failingCharger failingPair checkPlan
+unfolding read passes every bytesIn connectorsOk capOk pointOk newSoc kindAt firstRefusal lengthOk checkBlocks failingCharger failingPair checkPlan
 check b = checkPlan (plan b)
 
 stop : ℕ → ℕ → Bay → Stop
@@ -83,6 +84,14 @@ m12-refused : check (atOneKw (kwh 169)) ≡ Refused (CannotCharge 4 3)
 unfolding check
 m12-refused = refl
 
+lead-fine : check (nacsCapped (record { 0 = ratio 125 2 })) ≡ Fine
+unfolding check
+lead-fine = refl
+
+lead-refused : check (nacsCapped (record { 0 = ratio 1 2 })) ≡ Refused (Broken Field 3)
+unfolding check
+lead-refused = refl
+
 -- ---- the theorem
 
 -- a run of a plan, by what its check answers
@@ -111,4 +120,6 @@ worked-through =
     and by events 10 atTarget m10-fine refl
     and by events 10 (atOneKw (kwh 168)) m12-fine refl
     and by events 10 (atOneKw (kwh 169)) m12-refused refl
+    and by events 10 (nacsCapped (record { 0 = ratio 125 2 })) lead-fine refl
+    and by events 10 (nacsCapped (record { 0 = ratio 1 2 })) lead-refused refl
     and none

@@ -5,6 +5,7 @@ use lib.ListN.{length}
 use lib.Ieee.{Float, binary64, toBits}
 use Rattle.curve.specs.F64.{ratio}
 use Rattle.curve.specs.declared.points.Point.{Point}
+use Rattle.curve.specs.declared.units.Amperes.{Amperes}
 use Rattle.curve.specs.declared.units.Kw.{Kw}
 use Rattle.curve.specs.declared.units.Kwh.{Kwh}
 use Rattle.curve.specs.declared.units.Seconds.{Seconds}
@@ -15,6 +16,9 @@ use Rattle.plan.specs.Blocks.{words, checkOf}
 
 abbrev pub kw : ℕ → Kw
 kw n = record { 0 = ratio n 1 }
+
+abbrev pub amperes : ℕ → Amperes
+amperes n = record { 0 = ratio n 1 }
 
 abbrev pub kwh : ℕ → Kwh
 kwh n = record { 0 = ratio n 1 }
@@ -43,6 +47,7 @@ pub record Bay : Type 0 where
   pub battery : Kwh
   pub points : List Point
   pub maxPower : Kw
+  pub caps : List Amperes
   pub cars : List Car
 
 -- ---- its blocks; a block's id is its place in the file
@@ -67,9 +72,13 @@ pointFields (p ∷ ps) = f64 (p .soc) ++ f64 (p .power .0) ++ pointFields ps
 abbrev pub profile : Bay → List ℕ
 profile b = bytes 4 2 ++ bytes 2 (length (b .points)) ++ bytes 2 0 ++ f64 (b .battery .0) ++ pointFields (b .points)
 
--- id, connector count 0, max power, 1,200 A, 400 V
+abbrev pub capFields : List Amperes → List ℕ
+capFields [] = []
+capFields (c ∷ cs) = f64 (c .0) ++ capFields cs
+
+-- id, connector count 0, max power, 1,200 A, 400 V, the caps of its leads
 abbrev pub charger : Bay → List ℕ
-charger b = bytes 4 3 ++ bytes 12 0 ++ f64 (b .maxPower .0) ++ f64 (ratio 1200 1) ++ f64 (ratio 400 1)
+charger b = bytes 4 3 ++ bytes 12 0 ++ f64 (b .maxPower .0) ++ f64 (ratio 1200 1) ++ f64 (ratio 400 1) ++ capFields (b .caps)
 
 -- id, profile id, connector count 0, SOC start and target, idle, arrival, longest wait, queue limit
 abbrev pub vehicle : ℕ → Car → List ℕ
@@ -92,22 +101,22 @@ abbrev pub car : ℕ → ℕ → ℕ → Car
 car arrival wait limit =
     record { start = percent 25; target = percent 75; idle = seconds 120; arrival = arrival; wait = wait; queueLimit = limit }
 
--- battery 50, one point (0.5, 50), charger 50 kW
-abbrev pub bayOf : List Car → Bay
-bayOf cars = record { battery = kwh 50; points = point (percent 50) (kw 50) ∷ []; maxPower = kw 50; cars = cars }
+-- battery 50, one point (0.5, 50), charger 50 kW; by the caps of its leads and its cars
+abbrev pub bayOf : List Amperes → List Car → Bay
+bayOf caps cars = record { battery = kwh 50; points = point (percent 50) (kw 50) ∷ []; maxPower = kw 50; caps = caps; cars = cars }
 
 -- arrival 100, wait 1,800, queue limit 10
 abbrev pub bay : Bay
-bay = bayOf (car 100 1800 10 ∷ [])
+bay = bayOf [] (car 100 1800 10 ∷ [])
 
 -- M2 to M5: a second car at 200, by its longest wait and its queue limit
 abbrev pub secondCar : ℕ → ℕ → Bay
-secondCar wait limit = bayOf (car 100 1800 10 ∷ car 200 wait limit ∷ [])
+secondCar wait limit = bayOf [] (car 100 1800 10 ∷ car 200 wait limit ∷ [])
 
 -- M10 and M11: start = target = 0.5, idle 1.5, arrival 0, wait 1
 abbrev pub atTarget : Bay
 atTarget =
-    bayOf
+    bayOf []
     (record { start = percent 50; target = percent 50; idle = record { 0 = ratio 3 2 }; arrival = 0; wait = 1; queueLimit = 10 } ∷ [])
 
 -- M12: a battery charged at 1 kW, the point's power and the charger's, SOC 0 to 1
@@ -117,5 +126,10 @@ atOneKw battery =
       battery = battery;
       points = point (percent 50) (kw 1) ∷ [];
       maxPower = kw 1;
+      caps = [];
       cars = record { start = percent 0; target = percent 100; idle = seconds 120; arrival = 100; wait = 1800; queueLimit = 10 } ∷ [];
     }
+
+-- request 8: a cap on the lead with a Nacs plug, code 5, which the bay's charger and cars have
+abbrev pub nacsCapped : Amperes → Bay
+nacsCapped cap = bayOf (amperes 0 ∷ amperes 0 ∷ amperes 0 ∷ amperes 0 ∷ cap ∷ []) (car 100 1800 10 ∷ [])

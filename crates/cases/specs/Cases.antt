@@ -1,4 +1,4 @@
--- Rules. M1 to M12 of the paper's bay worked through: one list of cases, each with what it gives.
+-- Rules. M1 to M12 of the paper's bay, and request 8 at it, worked through: one list of cases, each with what it gives.
 use Prim.Native.Nat.{ℕ, _-_}
 use mathlib.Core.Path.{_≡_}
 use mathlib.Core.Bool.{Bool, true, false}
@@ -24,11 +24,12 @@ use Rattle.engine.specs.Demand.{Stop}
 use Rattle.files.specs.Read.{readPlan}
 use Rattle.files.specs.Check.{checkPlan}
 use Rattle.files.specs.Call.{stopOf}
+use Rattle.plan.specs.declared.answer.Rule.the-variants.{Field}
 use Rattle.plan.specs.declared.answer.Refusal.{Refusal}
-use Rattle.plan.specs.declared.answer.Refusal.the-variants.{CannotCharge}
+use Rattle.plan.specs.declared.answer.Refusal.the-variants.{Broken, CannotCharge}
 use Rattle.plan.specs.declared.answer.Answer.{Answer}
 use Rattle.plan.specs.declared.answer.Answer.the-variants.{Fine, Refused}
-use Rattle.cases.specs.Bay.{kw, kwh, seconds, percent, point, plan, bay, secondCar, atTarget, atOneKw}
+use Rattle.cases.specs.Bay.{kw, kwh, seconds, percent, point, plan, bay, secondCar, atTarget, atOneKw, nacsCapped}
 
 -- ---- what a case is, and what it gives
 
@@ -173,4 +174,7 @@ worked =
     -- M12 battery 168: 604,800 accepted; 169 refused by 12, the vehicle's block 4 and the charger's block 3
     run events 10 (plan (atOneKw (kwh 168))) gives ended 3 (charged 0 100 605020 0 (output (seconds 604800) (kwh 168) (kw 1)) (seconds 120) ∷ []) ∷
     run events 10 (plan (atOneKw (kwh 169))) gives refused (CannotCharge 4 3) ∷
+    -- request 8: a lead of 62.5 A, at 400 V 25 kW, takes the hour; one of half an ampere is refused by 7, the charger's block 3
+    run events 10 (plan (nacsCapped (record { 0 = ratio 125 2 }))) gives ended 3 (charged 0 100 3820 0 (output (seconds 3600) (kwh 25) (kw 25)) (seconds 120) ∷ []) ∷
+    run events 10 (plan (nacsCapped (record { 0 = ratio 1 2 }))) gives refused (Broken Field 3) ∷
     []

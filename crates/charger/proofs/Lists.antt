@@ -108,6 +108,12 @@ all-at [] i d l h = absurd (not-suc-le-zero l)
 all-at (x ∷ s) zero d l h = all-head h
 all-at (x ∷ s) (suc i) d l h = all-at s i d (le-of-suc-le-suc l) (all-tail h)
 
+-- the same where the default has it too
+pub all-default : {A : Type 0} {P : A → Type 0} (s : List A) (i : ℕ) (d : A) → P d → All P s → P (getD s i d)
+all-default [] i d p h = p
+all-default (x ∷ s) zero d p h = all-head h
+all-default (x ∷ s) (suc i) d p h = all-default s i d p (all-tail h)
+
 -- what a search of `xs` came to: nobody passes, or `v` does and nobody before it, and the rest is what stands around it
 pub data Searched (test : ℕ → Bool) (xs : List ℕ) : Found → Type 0 where
   missed : All (λ x. test x ≡ false) xs → Searched test xs nobody

@@ -5,18 +5,18 @@ use Prim.Native.Nat.{ℕ, zero, suc, _-_}
 use lib.Dec.{leb, eqb}
 use lib.ListN.{getD, take}
 use Rattle.charger.specs.declared.connector.Connectors.{Connectors}
-use Rattle.charger.specs.declared.connector.Resolved.{Resolved}
-use Rattle.charger.specs.declared.connector.Resolved.the-variants.{Connector, Nothing}
+use Rattle.charger.specs.declared.connector.Common.{Common}
+use Rattle.charger.specs.declared.connector.Common.the-variants.{Connector, Nothing}
 
 abbrev pub hasCode : List Bool → ℕ → Bool
 hasCode row k = leb 1 k && getD row (k - 1) false
 
 -- the first of the vehicle's codes that the charger has
-abbrev pub resolve : List Bool → List ℕ → Resolved
-resolve row [] = Nothing
-resolve row (k ∷ ks) = cond (hasCode row k) (Connector k) (resolve row ks)
+abbrev pub common : List Bool → List ℕ → Common
+common row [] = Nothing
+common row (k ∷ ks) = cond (hasCode row k) (Connector k) (common row ks)
 
-abbrev pub isConnector : Resolved → Bool
+abbrev pub isConnector : Common → Bool
 isConnector (Connector k) = true
 isConnector Nothing = false
 

@@ -4,4 +4,5 @@ pub mod Lists
 pub mod Connector
 pub mod Vehicle
 pub mod Charger
+pub mod Leads
 pub mod Code

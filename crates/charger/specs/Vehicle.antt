@@ -4,13 +4,13 @@ use mathlib.Core.List.{List}
 use Prim.Native.Nat.{ℕ}
 use lib.ListN.{getD, take, replicate}
 use Rattle.curve.specs.F64.{ratio}
-use Rattle.charger.specs.declared.connector.Resolved.{Resolved}
+use Rattle.charger.specs.declared.connector.Common.{Common}
 use Rattle.charger.specs.declared.vehicle.Vehicle.{Vehicle}
-use Rattle.charger.specs.Connector.{resolve, isConnector}
+use Rattle.charger.specs.Connector.{common, isConnector}
 
 -- the connector that a charger and a vehicle use: the first of the vehicle's that the charger has
-abbrev pub connectorOf : List Bool → Vehicle → Resolved
-connectorOf row v = resolve row (take (v .count) (v .codes))
+abbrev pub connectorOf : List Bool → Vehicle → Common
+connectorOf row v = common row (take (v .count) (v .codes))
 
 -- a pair fits if it has a connector in common
 unfoldable pub compatible : List Bool → Vehicle → Bool

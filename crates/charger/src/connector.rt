@@ -1,10 +1,10 @@
 // Connectors by their codes: 1 Ccs1, 2 Ccs2, 3 Chademo, 4 Gbt, 5 Nacs (connector.rs).
 ghost use mathlib.Core.Path.{_≡_};
 ghost use lib.ListN.{take};
-ghost use Rattle.charger.specs.Connector.{hasCode, resolve, contains, rowOf, codesOf, namedConnectors};
+ghost use Rattle.charger.specs.Connector.{hasCode, common, contains, rowOf, codesOf, namedConnectors};
 
 // The first of the vehicle's codes that the charger has.
-pub enum Resolved {
+pub enum Common {
     Connector(u8),
     Nothing,
 }
@@ -23,21 +23,21 @@ fn has(row: [bool; 5], code: u8) -> bool
     row[k - 1]
 }
 
-pub fn resolve_connector(row: [bool; 5], codes: [u8; 5], count: usize) -> Resolved
-    ensures { λ r. ⌜ r ≡ resolve row (take count codes) ⌝ }
+pub fn common_connector(row: [bool; 5], codes: [u8; 5], count: usize) -> Common
+    ensures { λ r. ⌜ r ≡ common row (take count codes) ⌝ }
 {
     let mut i = 0;
     while i < 5 {
         if count <= i {
-            return Resolved::Nothing;
+            return Common::Nothing;
         }
         let code = codes[i];
         if has(row, code) {
-            return Resolved::Connector(code);
+            return Common::Connector(code);
         }
         i += 1;
     }
-    Resolved::Nothing
+    Common::Nothing
 }
 
 // A vehicle's connectors, in its order of preference: the first `count` codes.

@@ -1,6 +1,6 @@
 // What the engines read of a vehicle.
-use crate::connector::Resolved;
-use crate::connector::resolve_connector;
+use crate::connector::Common;
+use crate::connector::common_connector;
 use curve::units::Seconds;
 ghost use mathlib.Core.Path.{_≡_};
 ghost use Rattle.charger.specs.Vehicle.{noVehicle, connectorOf, compatible};
@@ -35,12 +35,12 @@ pub fn no_vehicle() -> Vehicle
     }
 }
 
-// The connector that the pair uses: the first of the vehicle's that the charger has.
-pub fn connector_of(row: [bool; 5], vehicle: Vehicle) -> Resolved
+// The connector that the pair has in common: the first of the vehicle's that the charger has.
+pub fn connector_of(row: [bool; 5], vehicle: Vehicle) -> Common
     ensures { λ r. ⌜ r ≡ connectorOf row vehicle ⌝ }
 {
     let codes = vehicle.codes;
-    resolve_connector(row, codes, vehicle.count)
+    common_connector(row, codes, vehicle.count)
 }
 
 // The pair has a connector in common.
@@ -48,7 +48,7 @@ pub fn fits(row: [bool; 5], vehicle: Vehicle) -> bool
     ensures { λ r. ⌜ r ≡ compatible row vehicle ⌝ }
 {
     match connector_of(row, vehicle) {
-        Resolved::Connector(_) => true,
-        Resolved::Nothing => false,
+        Common::Connector(_) => true,
+        Common::Nothing => false,
     }
 }

@@ -3,7 +3,7 @@ use mathlib.Core.Bool.{Bool, false}
 use mathlib.Core.List.{List}
 use Prim.Native.Nat.{ℕ, _+_}
 use lib.ListN.{getD, replicate}
-use Rattle.curve.specs.F64.{ratio, ceiling}
+use Rattle.curve.specs.F64.{ceiling}
 use Rattle.curve.specs.Curve.{integrateOver}
 use Rattle.curve.specs.declared.points.Point.{Point}
 use Rattle.curve.specs.declared.charge_profile.ChargingOutput.{ChargingOutput}
@@ -12,7 +12,7 @@ use Rattle.curve.specs.declared.units.Kwh.{Kwh}
 use Rattle.charger.specs.declared.charger.Charger.{Charger}
 use Rattle.charger.specs.declared.vehicle.Vehicle.{Vehicle}
 use Rattle.charger.specs.Vehicle.{compatible, vehicleAt}
-use Rattle.charger.specs.Charger.{ratedPower}
+use Rattle.charger.specs.Charger.{noCharger, ratedPower}
 use Rattle.power.specs.declared.power.Limit.{Limit}
 use Rattle.power.specs.Power.{ProfilePlace}
 
@@ -38,9 +38,8 @@ pub record Plan : Type 0 where
 
 -- past the last charger there is one with no power
 unfoldable pub chargerAt : List Charger → ChargerPlace → Charger
-unfolding ratio
-chargerAt chargers c =
-    getD chargers c (record { «max_power» = record { 0 = ratio 0 1 }; current = record { 0 = ratio 0 1 }; voltage = record { 0 = ratio 0 1 } })
+unfolding noCharger
+chargerAt chargers c = getD chargers c noCharger
 
 -- past the last charger there is no connector
 abbrev pub rowAt : List (List Bool) → ChargerPlace → List Bool

@@ -8,6 +8,7 @@ use crate::session::minus;
 use crate::session::uncharged;
 use charger::charge_profile_list::profile_curve;
 use charger::charger::Charger;
+use charger::charger::no_charger;
 use charger::charger::rated_power;
 use charger::vehicle::Vehicle;
 use charger::vehicle::fits;
@@ -15,10 +16,8 @@ use charger::vehicle_list::VehicleList;
 use charger::waiting_queue::WaitingQueue;
 use curve::charge_profile::ChargingOutput;
 use curve::charge_profile::integrate_over;
-use curve::units::Amperes;
 use curve::units::Kw;
 use curve::units::Kwh;
-use curve::units::Volts;
 use power::power::Limit;
 ghost use mathlib.Core.Path.{_≡_};
 ghost use mathlib.Core.Bool.{_&&_};
@@ -238,11 +237,7 @@ pub fn charger_of(chargers: [Charger; 32], count: usize, c: usize) -> Charger
             return chargers[c];
         }
     }
-    Charger {
-        max_power: Kw(0.0),
-        current: Amperes(0.0),
-        voltage: Volts(0.0),
-    }
+    no_charger()
 }
 
 // A profile's battery; past the last, none.

@@ -6,8 +6,8 @@ use lib.Dec.{ltb, eqb}
 use lib.Ieee.{Float}
 use Rattle.curve.specs.F64.{ratio}
 use Rattle.charger.specs.Vehicle.{connectorOf, vehicleAt}
-use Rattle.charger.specs.declared.connector.Resolved.{Resolved}
-use Rattle.charger.specs.declared.connector.Resolved.the-variants.{Connector, Nothing}
+use Rattle.charger.specs.declared.connector.Common.{Common}
+use Rattle.charger.specs.declared.connector.Common.the-variants.{Connector, Nothing}
 use Rattle.charger.specs.declared.vehicle.Vehicle.{Vehicle}
 use Rattle.engine.specs.Plan.{rowAt}
 use Rattle.engine.specs.Demand.{outcomeNumber}
@@ -38,7 +38,7 @@ abbrev pub kept : Bool → Float → Float
 kept t x = cond t x (ratio 0 1)
 
 -- the code of a connector
-abbrev pub codeOf : Resolved → ℕ
+abbrev pub codeOf : Common → ℕ
 codeOf (Connector k) = k
 codeOf Nothing = 0
 

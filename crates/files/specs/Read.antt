@@ -6,6 +6,7 @@ use lib.Dec.{ltb, eqb}
 use lib.ListN.{getD}
 use Rattle.curve.specs.F64.{ratio}
 use Rattle.curve.specs.Curve.{curveOf}
+use Rattle.curve.specs.declared.units.Amperes.{Amperes}
 use Rattle.curve.specs.declared.units.Kwh.{Kwh}
 use Rattle.curve.specs.declared.points.Point.{Point}
 use Rattle.charger.specs.Connector.{namedConnectors, codesOf, rowOf}
@@ -46,8 +47,14 @@ batteryOf plan k = cond (ltb k (profileCount plan)) (record { 0 = f64At (profile
 abbrev pub codesAt : List ℕ → ℕ → List ℕ
 codesAt b at = getD b at 0 ∷ getD b (at + 1) 0 ∷ getD b (at + 2) 0 ∷ getD b (at + 3) 0 ∷ getD b (at + 4) 0 ∷ []
 
+-- the caps of a charger's leads, by connector code from 1
+abbrev pub capsOf : List ℕ → List Amperes
+capsOf b =
+    record { 0 = f64At b 40 } ∷ record { 0 = f64At b 48 } ∷ record { 0 = f64At b 56 } ∷ record { 0 = f64At b 64 } ∷ record { 0 = f64At b 72 } ∷ []
+
 abbrev pub chargerOf : List ℕ → Charger
-chargerOf b = record { «max_power» = record { 0 = f64At b 16 }; current = record { 0 = f64At b 24 }; voltage = record { 0 = f64At b 32 } }
+chargerOf b =
+    record { «max_power» = record { 0 = f64At b 16 }; current = record { 0 = f64At b 24 }; voltage = record { 0 = f64At b 32 }; caps = capsOf b }
 
 -- which connectors a charger's block names
 abbrev pub rowOfCharger : List ℕ → List Bool

@@ -1,5 +1,5 @@
 // What the book says of a session.
-use charger::connector::Resolved;
+use charger::connector::Common;
 use charger::vehicle::Vehicle;
 use charger::vehicle::connector_of;
 use charger::vehicle_list::VehicleList;
@@ -131,8 +131,8 @@ fn connector_code(there: bool, row: [bool; 5], vehicle: Vehicle) -> u8
         return 0;
     }
     match connector_of(row, vehicle) {
-        Resolved::Connector(code) => code,
-        Resolved::Nothing => 0,
+        Common::Connector(code) => code,
+        Common::Nothing => 0,
     }
 }
 

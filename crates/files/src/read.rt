@@ -1,5 +1,6 @@
 // A plan read into what the engines work on. The plan's header says how many blocks of each kind follow.
 use charger::charger::Charger;
+use charger::charger::no_charger;
 use charger::connector::connector_row;
 use charger::connector::connectors_of;
 use charger::vehicle::Vehicle;
@@ -36,7 +37,7 @@ ghost use Rattle.engine.specs.Code.Simulation.{batteryAt};
 ghost use Rattle.plan.specs.Search.{each};
 ghost use Rattle.plan.specs.Places.{chargerCount, vehicleCount};
 ghost use Rattle.files.specs.Code.Reading.{Counted, SiteRead};
-ghost use Rattle.files.specs.Read.{pointAt, curveOfProfile, batteryOf, codesAt, chargerOf, rowOfCharger, chargersOf, connectorRows, profileIndex, vehicleOf, vehiclesOf, limitOf};
+ghost use Rattle.files.specs.Read.{pointAt, curveOfProfile, batteryOf, codesAt, capsOf, chargerOf, rowOfCharger, chargersOf, connectorRows, profileIndex, vehicleOf, vehiclesOf, limitOf};
 
 // Stores the first n points of a profile's block into rows.
 fn store_points(rows: &mut [[f64; 2]], b: &[u8], n: usize)
@@ -111,6 +112,20 @@ fn codes_at(b: &[u8], at: usize) -> [u8; 5]
     [b[at], b[at + 1], b[at + 2], b[at + 3], b[at + 4]]
 }
 
+// The caps of a charger's leads, by connector code from 1.
+fn read_caps(b: &[u8]) -> [Amperes; 5]
+    requires { ⌜ length (now b) ≡ 512 ⌝ }
+    ensures { λ r. ⌜ r ≡ capsOf (now (b .entry)) ⌝ }
+{
+    [
+        Amperes(f64_at(b, 40)),
+        Amperes(f64_at(b, 48)),
+        Amperes(f64_at(b, 56)),
+        Amperes(f64_at(b, 64)),
+        Amperes(f64_at(b, 72)),
+    ]
+}
+
 fn read_charger(b: &[u8]) -> Charger
     requires { ⌜ length (now b) ≡ 512 ⌝ }
     ensures { λ r. ⌜ r ≡ chargerOf (now (b .entry)) ⌝ }
@@ -119,6 +134,7 @@ fn read_charger(b: &[u8]) -> Charger
         max_power: Kw(f64_at(b, 16)),
         current: Amperes(f64_at(b, 24)),
         voltage: Volts(f64_at(b, 32)),
+        caps: read_caps(b),
     }
 }
 
@@ -129,11 +145,7 @@ pub fn read_chargers(plan: &[u8]) -> [Charger; 32]
 {
     let start = start_of(plan, Kind::Charger);
     let n = charger_count(plan);
-    let none = Charger {
-        max_power: Kw(0.0),
-        current: Amperes(0.0),
-        voltage: Volts(0.0),
-    };
+    let none = no_charger();
     let mut all = [none; 32];
     let mut i = 0;
     while i < n {

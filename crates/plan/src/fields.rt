@@ -10,7 +10,7 @@ ghost use lib.ListN.{length};
 ghost use Rattle.curve.specs.F64.{inRange};
 ghost use Rattle.plan.specs.Bytes.{leAt};
 ghost use Rattle.plan.specs.Search.{every, holds};
-ghost use Rattle.plan.specs.Fields.{f64At, bytesIn, zeros as Fields·zeros, lettersOk, limitOk, headerTests, pointCount, pointOk, profileTests, connectorsOk, chargerTests, vehicleTests};
+ghost use Rattle.plan.specs.Fields.{f64At, bytesIn, zeros as Fields·zeros, lettersOk, limitOk, headerTests, pointCount, pointOk, profileTests, connectorsOk, capOk, chargerTests, vehicleTests};
 
 // The float in the 8 bytes of b from at.
 pub fn f64_at(b: &[u8], at: usize) -> f64
@@ -125,6 +125,15 @@ fn connectors_ok(b: &[u8], at: usize, to: usize) -> bool
     (count <= 5) & bytes_in(b, at + 1, end, 1, 5) & zeros(b, end, to)
 }
 
+// The cap of a lead in the 8 bytes from at: none, or within its limits.
+fn cap_ok(b: &[u8], at: usize) -> bool
+    requires { ⌜ at + 8 ≤ length (now b) ⌝ }
+    ensures { λ r. ⌜ r ≡ capOk (now (b .entry)) at ⌝ }
+{
+    let bits = u64_at(b, at);
+    (bits == 0) | in_range(bits, 1.0, 4096.0)
+}
+
 pub fn charger_ok(b: &[u8]) -> bool
     requires { ⌜ length (now b) ≡ 512 ⌝ }
     ensures { λ r. ⌜ r ≡ holds (chargerTests (now (b .entry))) ⌝ }
@@ -133,7 +142,12 @@ pub fn charger_ok(b: &[u8]) -> bool
         & f64_in(b, 16, 0.125, 1024.0)
         & f64_in(b, 24, 1.0, 4096.0)
         & f64_in(b, 32, 1.0, 4096.0)
-        & zeros(b, 40, 508)
+        & cap_ok(b, 40)
+        & cap_ok(b, 48)
+        & cap_ok(b, 56)
+        & cap_ok(b, 64)
+        & cap_ok(b, 72)
+        & zeros(b, 80, 508)
 }
 
 pub fn vehicle_ok(b: &[u8]) -> bool

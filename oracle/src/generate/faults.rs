@@ -9,7 +9,16 @@ use crate::draw::Draw;
 /// The float fields of a kind of block with their limits.
 const HEADER_FLOATS: &[(usize, f64, f64)] = &[(16, 0.125, 65_536.0)];
 const PROFILE_FLOATS: &[(usize, f64, f64)] = &[(8, 1.0, 1_024.0), (16, 0.0, 1.0), (24, 0.125, 1_024.0)];
-const CHARGER_FLOATS: &[(usize, f64, f64)] = &[(16, 0.125, 1_024.0), (24, 1.0, 4_096.0), (32, 1.0, 4_096.0)];
+const CHARGER_FLOATS: &[(usize, f64, f64)] = &[
+    (16, 0.125, 1_024.0),
+    (24, 1.0, 4_096.0),
+    (32, 1.0, 4_096.0),
+    (40, 1.0, 4_096.0),
+    (48, 1.0, 4_096.0),
+    (56, 1.0, 4_096.0),
+    (64, 1.0, 4_096.0),
+    (72, 1.0, 4_096.0),
+];
 const VEHICLE_FLOATS: &[(usize, f64, f64)] = &[(16, 0.0, 1.0), (24, 0.0, 1.0), (32, 0.0, 604_800.0)];
 
 /// A float field of block k, if it has one.
@@ -144,6 +153,9 @@ fn field_fault(draw: &mut Draw, draft: &mut Draft) {
             -5e-324,
             f64::MAX,
             -f64::NAN,
+            // What is below the least value, if that is above 0.
+            if low > 0.0 { 5e-324 } else { -1.0 },
+            if low > 0.0 { low / 2.0 } else { -0.5 },
         ];
         put_f64(draft.block_mut(k), at, draw.pick(&wrong));
         return;

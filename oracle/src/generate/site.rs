@@ -1,6 +1,8 @@
 //! Plans that are good, or refused by 12 at most, in several styles.
+use crate::blocks::{Block, put_f64};
 use crate::draft::{Car, Draft, charger, points, profile};
 use crate::draw::Draw;
+use crate::plan::CAPS;
 
 #[derive(Clone, Copy, PartialEq)]
 pub enum Clock {
@@ -41,6 +43,8 @@ pub struct Style {
     /// Durations that are whole seconds, and few of them.
     pub whole: bool,
     pub connectors: bool,
+    /// Leads that carry less than their charger, or as much, or more.
+    pub caps: bool,
     pub limit: bool,
 }
 
@@ -54,6 +58,7 @@ pub const FEW: Style = Style {
     idle: Idle::Any,
     whole: false,
     connectors: false,
+    caps: false,
     limit: false,
 };
 pub const CONTENTION: Style = Style { profiles: [1, 3], chargers: [1, 3], vehicles: [3, 14], ..FEW };
@@ -109,6 +114,9 @@ pub fn draft(draw: &mut Draw, style: Style) -> Draft {
         let codes = codes(draw, style);
         let [power, current, voltage] = rating(draw, style);
         draft.chargers.push(charger(id, &codes, power, current, voltage));
+        if style.caps {
+            set_caps(draw, draft.chargers.last_mut().unwrap(), current);
+        }
     }
     let vehicles = range(draw, style.vehicles);
     for id in ids(draw, vehicles) {
@@ -199,6 +207,20 @@ fn rating(draw: &mut Draw, style: Style) -> [f64; 3] {
         0 => [power, 1_200.0, 400.0],
         1 => [power, draw.float(50.0, 4_096.0), draw.float(100.0, 4_096.0)],
         _ => [power, 4_096.0, 4_096.0],
+    }
+}
+
+/// Caps of some leads, whether the charger has them or not.
+fn set_caps(draw: &mut Draw, charger: &mut Block, current: f64) {
+    for at in CAPS {
+        let cap = match draw.below(8) {
+            0..=2 => continue,
+            3 => current,
+            4 => draw.pick(&[current.next_down(), current.next_up(), 1.0, 1.0_f64.next_up(), 4_096.0]),
+            5 => draw.float(current, 4_096.0),
+            _ => draw.float(1.0, current),
+        };
+        put_f64(charger, at, cap.clamp(1.0, 4_096.0));
     }
 }
 

@@ -41,7 +41,7 @@ average-lower x y a b p q ca cb h =
     mul-mono-right binary64 (ratio 1 2) _ _ half-positive (capped-sum x y a p q ca) (capped-sum x y b p q cb)
     (add-mono binary64 _ _ _ _
     (least-clear (x .0) (a .0) p ca) (least-clear (x .0) (b .0) p cb) (least-clear (y .0) (a .0) q ca) (least-clear (y .0) (b .0) q cb)
-    (least-mono (x .0) (a .0) (b .0) p ca cb h) (least-mono (y .0) (a .0) (b .0) q ca cb h))
+    (least-mono (x .0) (x .0) (a .0) (b .0) p p ca cb (le-self (x .0) p) h) (least-mono (y .0) (y .0) (a .0) (b .0) q q ca cb (le-self (y .0) q) h))
 
 -- ---- the SOCs of a part
 or-true : (a b : Bool) → (a || b) ≡ true → T a ⊎ T b

@@ -12,7 +12,9 @@ use Rattle.curve.proofs.charge_profile.LowerCap.{half-positive}
 -- powers p and q at the ends, and caps a ≤ b
 module _ (p q a b : Float) (cp : T (clear p)) (cq : T (clear q)) (ca : T (clear a)) (cb : T (clear b)) (h : T (le a b)) where
   capped-after : T (le (least (ratio 1 2 ⊗ (p ⊕ q)) a) (least (ratio 1 2 ⊗ (p ⊕ q)) b))
-  capped-after = least-mono (ratio 1 2 ⊗ (p ⊕ q)) a b (mul-clear binary64 (ratio 1 2) (p ⊕ q) half-positive (add-clear binary64 p q cp cq)) ca cb h
+  capped-after =
+      let half = mul-clear binary64 (ratio 1 2) (p ⊕ q) half-positive (add-clear binary64 p q cp cq) in
+      least-mono (ratio 1 2 ⊗ (p ⊕ q)) (ratio 1 2 ⊗ (p ⊕ q)) a b half half ca cb (le-self (ratio 1 2 ⊗ (p ⊕ q)) half) h
 
   abbrev sum : Float → Float
   sum cap = greatest p cap ⊕ greatest q cap

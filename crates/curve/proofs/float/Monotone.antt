@@ -136,14 +136,22 @@ div-mono f (fin false m e) (fin false m' e') (fin false n d) p p' q h =
     (dividends (m * up e) (down e) (m' * up e') (down e') (n * up d) (down d) (cross m e m' e' h)))
 
 -- ---- the smaller and the larger
-pub least-mono : (x y y' : Float) → T (clear x) → T (clear y) → T (clear y') → T (le y y') → T (le (least x y) (least x y'))
-least-mono x y y' p q q' h = rw (own x p) (go (lt y x) (lt y' x) refl refl)
+pub least-mono : (x x' y y' : Float) → T (clear x) → T (clear x') → T (clear y) → T (clear y') → T (le x x') → T (le y y') → T (le (least x y) (least x' y'))
+least-mono x x' y y' p p' q q' h k = rw (own x p, own x' p') (go (lt y x) (lt y' x') refl refl)
   where
-    go : (a b : Bool) → lt y x ≡ a → lt y' x ≡ b → T (le (cond a y x) (cond b y' x))
-    go true true s t = h
-    go true false s t = le-of-lt y x s
-    go false true s t = le-trans-clear x y y' p q q' (at-least y x q p s) h
-    go false false s t = le-self x p
+    go : (a b : Bool) → lt y x ≡ a → lt y' x' ≡ b → T (le (cond a y x) (cond b y' x'))
+    go true true s t = k
+    go true false s t = le-trans-clear y x x' q p p' (le-of-lt y x s) h
+    go false true s t = le-trans-clear x y y' p q q' (at-least y x q p s) k
+    go false false s t = h
+
+-- the smaller is at most the second
+pub least-below : (x y : Float) → T (clear x) → T (clear y) → T (le (least x y) y)
+least-below x y p q = rw (own x p) (go (lt y x) refl)
+  where
+    go : (a : Bool) → lt y x ≡ a → T (le (cond a y x) y)
+    go true s = le-self y q
+    go false s = at-least y x q p s
 
 pub greatest-mono : (x x' y y' : Float) → T (clear x) → T (clear x') → T (clear y) → T (clear y') → T (le x x') → T (le y y') → T (le (greatest x y) (greatest x' y'))
 greatest-mono x x' y y' p p' q q' h k = rw (own x p, own x' p') (go (lt x y) (lt x' y') refl refl)

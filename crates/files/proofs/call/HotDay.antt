@@ -34,7 +34,8 @@ use Rattle.plan.specs.declared.answer.Answer.{Answer}
 use Rattle.plan.specs.declared.answer.Answer.the-variants.{Fine, Refused}
 use Rattle.plan.proofs.SearchLaws.{length-each}
 use Rattle.files.proofs.read.Accepted.{profiles-named}
-use Rattle.files.proofs.read.Within.{VehicleWithin, ChargerWithin, vehicles-within, chargers-within, battery-within, points-within}
+use Rattle.charger.specs.Leads.{ChargerWithin}
+use Rattle.files.proofs.read.Within.{VehicleWithin, vehicles-within, chargers-within, battery-within, points-within}
 use Rattle.files.proofs.check.PairLaws.{plan-fine, charged-in-time}
 use Rattle.files.proofs.check.RatedPower.{vehicle-inside, row-inside, rated-above}
 

@@ -2,23 +2,25 @@
 use mathlib.Core.Path.{_≡_, refl}
 use mathlib.Core.Bool.{Bool, true, false, cond, _&&_, _||_, false≢true}
 use mathlib.Core.List.{List}
+use mathlib.Core.Logic.{inl, inr}
 use Prim.Native.Nat.{ℕ, _+_, _*_, _<_}
 use native.Mathlib.Nat.{zero-add}
 use native.Mathlib.Omega.{arith}
 use borrow.Author.Tests.{lt-ltb, eqb-true}
 use lib.Dec.{eqb}
+use lib.Ieee.{binary64, ofBits, eq}
 use Rattle.curve.specs.F64.{ratio, inRange}
 use Rattle.curve.specs.Curve.{origin}
 use Rattle.curve.specs.Limits.{Within, Soc, Power, Battery, Held}
 use Rattle.curve.specs.declared.units.Kw.{Kw}
 use Rattle.curve.proofs.float.Limits.{from-bits, each-held}
-use Rattle.charger.specs.Lists.{All}
-use Rattle.charger.specs.declared.charger.Charger.{Charger}
+use Rattle.charger.specs.Leads.{NoCap, CapWithin, ChargerWithin}
+use Rattle.charger.specs.Lists.{All, none, also}
 use Rattle.charger.specs.declared.vehicle.Vehicle.{Vehicle}
 use Rattle.power.specs.declared.power.Limit.the-variants.{Unlimited, AtMost}
 use Rattle.plan.specs.Bytes.{leAt}
 use Rattle.plan.specs.Blocks.{block}
-use Rattle.plan.specs.Fields.{pointCount, pointOk, zeros}
+use Rattle.plan.specs.Fields.{f64At, capOk, pointCount, pointOk, zeros}
 use Rattle.plan.specs.Places.{profileCount, chargerCount, vehicleCount, profileBlock, chargerBlock, vehicleBlock}
 use Rattle.plan.specs.Plan.{checkBlocks}
 use Rattle.files.specs.Read.{pointAt, pointsOf, batteryOf, chargerOf, chargersOf, vehicleOf, vehicleIn, vehiclesOf, limitOf}
@@ -33,10 +35,18 @@ pub record VehicleWithin (x : Vehicle) : Type 0 where
   pub target : Soc (x .target)
   pub idle : Within (ratio 0 1) (ratio 604800 1) (x .idle .0)
 
-pub record ChargerWithin (x : Charger) : Type 0 where
-  pub power : Power (x .«max_power» .0)
-  pub current : Within (ratio 1 1) (ratio 4096 1) (x .current .0)
-  pub voltage : Within (ratio 1 1) (ratio 4096 1) (x .voltage .0)
+zero-bits : NoCap (record { 0 = ofBits binary64 0 })
+unfolding ofBits ratio eq
+zero-bits = refl
+
+-- the test of a lead's cap: none, or one within its limits
+cap-within : (b : List ℕ) (at : ℕ) → capOk b at ≡ true → CapWithin (record { 0 = f64At b at })
+unfolding capOk
+cap-within b at h = go (eqb (leAt 8 b at) 0) refl
+  where
+    go : (none : Bool) → eqb (leAt 8 b at) 0 ≡ none → CapWithin (record { 0 = f64At b at })
+    go true e = inl (rw (eqb-true (leAt 8 b at) 0 e) zero-bits)
+    go false e = inr (from-bits (leAt 8 b at) (ratio 1 1) (ratio 4096 1) (rw e at h))
 
 -- the test of a site limit, where the limit is there
 present : (n : ℕ) (r z : Bool) → n ≡ 1 → (eqb n 1 && r || eqb n 0 && z) ≡ true → r ≡ true
@@ -68,6 +78,9 @@ module _ (plan : List ℕ) (fine : checkBlocks plan ≡ Fine) where
         power = from-bits (leAt 8 block 16) (ratio 1 8) (ratio 1024 1) (test 1);
         current = from-bits (leAt 8 block 24) (ratio 1 1) (ratio 4096 1) (test 2);
         voltage = from-bits (leAt 8 block 32) (ratio 1 1) (ratio 4096 1) (test 3);
+        caps =
+            also (cap-within block 40 (test 4)) (also (cap-within block 48 (test 5)) (also (cap-within block 56 (test 6))
+            (also (cap-within block 64 (test 7)) (also (cap-within block 72 (test 8)) none))));
       })
 
   pub battery-within : (k : ℕ) → k < profileCount plan → Battery (batteryOf plan k .0)

@@ -6,15 +6,12 @@ use borrow.Author.Needs.{needs}
 use Rattle.charger.proofs.charger.actual_max_power_kw.Statement.{statement}
 use Rattle.charger.proofs.charger.actual_max_power_kw.Tie as tie
 
-current-of-requires : tie.Need-current-of-requires
-current-of-requires c κs = search needs
-
 min-requires : tie.Need-min-requires
 min-requires c κs = search needs
 
 returns : tie.Need-returns
 unfolding actualMaxPower ratio ofBits
-returns c = simp (c .min .ensures, c .before .before .before .current-of .ensures)
+returns c = simp (c .min .ensures)
 
 pub actual-max-power-kw-spec : {M : Type 1} → statement M
-actual-max-power-kw-spec = tie.close (tie.spec current-of-requires min-requires returns)
+actual-max-power-kw-spec = tie.close (tie.spec min-requires returns)

@@ -18,7 +18,7 @@ integrate-over-requires c κs = search needs
 returns : tie.Need-returns
 returns c =
     let b = c .before .before in
-    rw (c .before .profile-curve .ensures, b .battery-of .ensures, b .before .rated-power .ensures) at (c .integrate-over .ensures)
+    rw (c .before .profile-curve .ensures, b .battery-of .ensures, b .before .rated-power .ensures .0) at (c .integrate-over .ensures)
 
 pub charging-output-spec : {M : Type 1} → statement M
 charging-output-spec =

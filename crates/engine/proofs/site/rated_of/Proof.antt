@@ -19,7 +19,7 @@ rated-power-requires c κs = search needs
 
 returns : tie.Need-returns
 unfolding rated
-returns c = λ curves lens. c .rated-power .ensures ∙ rw (c .before .get-vehicle .ensures, c .before .before .row-of .ensures, c .before .before .before .charger-of .ensures)
+returns c = λ curves lens. c .rated-power .ensures .0 ∙ rw (c .before .get-vehicle .ensures, c .before .before .row-of .ensures, c .before .before .before .charger-of .ensures)
 
 pub rated-of-spec : {M : Type 1} → statement M
 rated-of-spec =

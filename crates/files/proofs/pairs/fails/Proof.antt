@@ -22,7 +22,7 @@ returns-2 : tie.Need-returns-2
 unfolding ofBits ratio
 returns-2 c =
     let at-if = c .before .before in
-    rw (← at-if .before .fits2 .ensures, not-false (at-if .before .fits2 .result) (at-if .if1 .left), ← c .before .rated-power .ensures, ← c .integrate-over .ensures)
+    rw (← at-if .before .fits2 .ensures, not-false (at-if .before .fits2 .result) (at-if .if1 .left), ← c .before .rated-power .ensures .0, ← c .integrate-over .ensures)
 
 pub fails-spec : {M : Type 1} → statement M
 fails-spec =

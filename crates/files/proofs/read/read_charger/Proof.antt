@@ -12,9 +12,12 @@ f64-at-requires-2 c κs = search needs
 f64-at-requires-3 : tie.Need-f64-at-requires-3
 f64-at-requires-3 c κs = search needs
 
+read-caps-requires : tie.Need-read-caps-requires
+read-caps-requires c κs = search needs
+
 returns : tie.Need-returns
 returns c = cc
 
 pub read-charger-spec : {M : Type 1} → statement M
 read-charger-spec =
-    tie.close (tie.spec f64-at-requires f64-at-requires-2 f64-at-requires-3 returns)
+    tie.close (tie.spec f64-at-requires f64-at-requires-2 f64-at-requires-3 read-caps-requires returns)

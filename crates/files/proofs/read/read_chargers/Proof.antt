@@ -1,6 +1,7 @@
 -- `files::read::read_chargers` meets its contract. Assumes nothing.
 use mathlib.Core.Path.{_≡_, refl, _∙_}
 use Prim.Native.Nat.{_-_, _≤_}
+use borrow.Author.Needs.{needs}
 use native.Mathlib.Omega.{arith}
 use lib.ListN.{length, take, length-set}
 use Rattle.plan.specs.Search.{each}
@@ -21,6 +22,9 @@ start-of-requires c κs = omega arith
 
 charger-count-requires : tie.Need-charger-count-requires Inv-loop μ-loop
 charger-count-requires c κs = omega arith
+
+no-charger-requires : tie.Need-no-charger-requires Inv-loop μ-loop
+no-charger-requires c κs = search needs
 
 loop-holds : tie.Need-loop-holds Inv-loop μ-loop
 unfolding each
@@ -50,17 +54,17 @@ loop-less c = omega arith
 loop-again : tie.Need-loop-again Inv-loop μ-loop
 loop-again c =
     let at-loop = c .before .before .before in
-    let a = at-loop .before .before .before .before .args in
+    let a = at-loop .before .before .before .before .before .args in
     let same : c .read-charger .result ≡ chargerOf (chargerBlock (a .plan .now) (at-loop .loop .i)) =
-    c .read-charger .ensures ∙ rw (c .before .block .ensures .0, at-loop .before .before .start-of .ensures .0) in
+    c .read-charger .ensures ∙ rw (c .before .block .ensures .0, at-loop .before .before .before .start-of .ensures .0) in
     (omega arith, (simp length-set (at-loop .loop .inv .1 .0), fill-step (λ j. chargerOf (chargerBlock (a .plan .now) j)) (at-loop .loop .all) (at-loop .loop .i) _ (omega arith) (at-loop .loop .inv .1 .1) same))
 
 returns : tie.Need-returns Inv-loop μ-loop
 unfolding chargersOf
 returns c =
     let at-loop = c .before in
-    let e : at-loop .loop .i ≡ at-loop .before .charger-count .result = omega arith in
-    rw (← at-loop .before .charger-count .ensures .0, ← e) (at-loop .loop .inv .1 .1)
+    let e : at-loop .loop .i ≡ at-loop .before .before .charger-count .result = omega arith in
+    rw (← at-loop .before .before .charger-count .ensures .0, ← e) (at-loop .loop .inv .1 .1)
 
 pub read-chargers-spec : {M : Type 1} → statement M
 read-chargers-spec =
@@ -70,6 +74,7 @@ read-chargers-spec =
     μ-loop
     start-of-requires
     charger-count-requires
+    no-charger-requires
     loop-holds
     add-block
     block-requires

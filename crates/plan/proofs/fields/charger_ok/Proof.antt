@@ -17,6 +17,21 @@ f64-in-requires-2 c κs = search needs
 f64-in-requires-3 : tie.Need-f64-in-requires-3
 f64-in-requires-3 c κs = search needs
 
+cap-ok-requires : tie.Need-cap-ok-requires
+cap-ok-requires c κs = search needs
+
+cap-ok-requires-2 : tie.Need-cap-ok-requires-2
+cap-ok-requires-2 c κs = search needs
+
+cap-ok-requires-3 : tie.Need-cap-ok-requires-3
+cap-ok-requires-3 c κs = search needs
+
+cap-ok-requires-4 : tie.Need-cap-ok-requires-4
+cap-ok-requires-4 c κs = search needs
+
+cap-ok-requires-5 : tie.Need-cap-ok-requires-5
+cap-ok-requires-5 c κs = search needs
+
 zeros-requires : tie.Need-zeros-requires
 zeros-requires c κs = search needs
 
@@ -32,5 +47,10 @@ charger-ok-spec =
     f64-in-requires
     f64-in-requires-2
     f64-in-requires-3
+    cap-ok-requires
+    cap-ok-requires-2
+    cap-ok-requires-3
+    cap-ok-requires-4
+    cap-ok-requires-5
     zeros-requires
     returns)

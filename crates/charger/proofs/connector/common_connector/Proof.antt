@@ -1,17 +1,17 @@
--- `connector::resolve_connector` meets its contract. What is resolved among all of the codes is resolved among those from i on. Assumes nothing.
+-- `connector::common_connector` meets its contract. What is in common among all of the codes is in common among those from i on. Assumes nothing.
 use mathlib.Core.Path.{_≡_, refl, sym, _∙_}
 use Prim.Native.Nat.{_≤_, _-_}
 use borrow.Author.Needs.{needs}
 use native.Mathlib.Omega.{arith}
 use lib.ListN.{length, take}
-use Rattle.charger.specs.Connector.{resolve}
+use Rattle.charger.specs.Connector.{common}
 use Rattle.charger.specs.Code.Queue.{part}
 use Rattle.charger.proofs.waiting_queue.Part.{part-next, part-end, part-past}
-use Rattle.charger.proofs.connector.resolve_connector.Statement.{statement}
-use Rattle.charger.proofs.connector.resolve_connector.Tie as tie
+use Rattle.charger.proofs.connector.common_connector.Statement.{statement}
+use Rattle.charger.proofs.connector.common_connector.Tie as tie
 
 abbrev Inv-loop : tie.InvT-loop
-Inv-loop row count codes i₀ i = (i ≤ 5) × (resolve row (take count codes) ≡ resolve row (part i count codes))
+Inv-loop row count codes i₀ i = (i ≤ 5) × (common row (take count codes) ≡ common row (part i count codes))
 
 abbrev μ-loop : tie.MeasureT-loop
 μ-loop row count codes i₀ i = 5 - i
@@ -54,8 +54,8 @@ returns-3 c =
     let five : length codes ≡ 5 = search needs in
     sym (c .before .loop .inv .1 ∙ rw (part-past codes (c .before .loop .i) _ (omega arith)))
 
-pub resolve-connector-spec : {M : Type 1} → statement M
-resolve-connector-spec =
+pub common-connector-spec : {M : Type 1} → statement M
+common-connector-spec =
     tie.close
     (tie.spec
     Inv-loop
