@@ -13,7 +13,7 @@
  *   on several threads at once, each with its own `book` and `numbers`; a plan may be shared.
  * - No pointer may be null, also where its length is 0. The buffers of one call may not overlap. `numbers` is aligned as
  *   uint64_t; `plan` and `book` may begin anywhere.
- * - site_run takes up to 178,000 bytes of stack and site_check up to 34,000, as examples/c/stack.c measures them. Give
+ * - A call takes at most SITE_RUN_STACK or SITE_CHECK_STACK bytes of stack; examples/c/stack.c measures it against them. Give
  *   a thread that calls them 256 KiB or more: the usual 8 MiB is plenty, the 128 KiB of a thread under musl are too few.
  * - Floats are computed as C starts them: rounded to nearest, subnormal numbers kept. A program that was linked with
  *   -ffast-math changes that.
@@ -31,6 +31,10 @@ extern "C" {
 /* Lengths in bytes: a longer plan is refused by 4, a shorter book by 3. */
 #define SITE_PLAN_MOST 57856
 #define SITE_BOOK_LEAST 7168
+
+/* The most stack that a call takes, in bytes. */
+#define SITE_CHECK_STACK 40960
+#define SITE_RUN_STACK 196608
 
 /* A larger allowance is refused by 2. */
 #define SITE_ALLOWANCE_MOST 10000000

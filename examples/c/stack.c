@@ -1,4 +1,5 @@
-/* Measures how much stack the calls take: runs them on a thread whose stack was filled with a pattern, and looks how deep it was written. */
+/* Measures how much stack the calls take: runs them on a thread whose stack was filled with a pattern, and looks how deep it was written.
+ * Its exit status is 1 where a call takes more than site.h says. */
 #define _GNU_SOURCE
 #include <pthread.h>
 #include <stdio.h>
@@ -62,6 +63,10 @@ int main(int count, char **words) {
         fclose(file);
         long checked = depth(check, NULL), ran = depth(run, allowances);
         printf("%s: site_check took %ld bytes of stack, site_run %ld\n", words[k], checked, ran);
+        if (checked > SITE_CHECK_STACK || ran > SITE_RUN_STACK) {
+            fprintf(stderr, "%s: more stack than site.h says\n", words[k]);
+            return 1;
+        }
     }
     return 0;
 }
