@@ -30,9 +30,13 @@ unfoldable pub capOf : Charger → ℕ → Amperes
 unfolding ratio
 capOf charger code = cond (leb 1 code) (getD (charger .caps) (code - 1) noCap) noCap
 
--- a cap of 0 A is none; else the smaller of cap and current
+-- a cap of 0 A is none
+abbrev pub isNone : Amperes → Bool
+isNone cap = eq (cap .0) (ratio 0 1)
+
+-- the smaller of cap and current, where there is a cap
 abbrev pub capped : Amperes → Amperes → Amperes
-capped cap current = cond (eq (cap .0) (ratio 0 1)) current (record { 0 = least (cap .0) (current .0) })
+capped cap current = cond (isNone cap) current (record { 0 = least (cap .0) (current .0) })
 
 -- the current through the lead with a code
 abbrev pub currentOf : Charger → ℕ → Amperes

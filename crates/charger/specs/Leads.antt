@@ -4,19 +4,19 @@ use mathlib.Core.Bool.{Bool, true, cond}
 use mathlib.Core.List.{List}
 use mathlib.Core.Logic.{_⊎_}
 use lib.Dec.{T}
-use lib.Ieee.{eq, le}
+use lib.Ieee.{le}
 use Rattle.curve.specs.F64.{ratio}
 use Rattle.curve.specs.Limits.{Within, Power}
 use Rattle.curve.specs.declared.units.Amperes.{Amperes}
 use Rattle.curve.specs.declared.units.Kw.{Kw}
 use Rattle.charger.specs.declared.charger.Charger.{Charger}
 use Rattle.charger.specs.declared.vehicle.Vehicle.{Vehicle}
-use Rattle.charger.specs.Charger.{actualMaxPower}
+use Rattle.charger.specs.Charger.{isNone, actualMaxPower}
 use Rattle.charger.specs.Lists.{All}
 use Rattle.charger.specs.Vehicle.{compatible}
 
 abbrev pub NoCap : Amperes → Type 0
-NoCap cap = eq (cap .0) (ratio 0 1) ≡ true
+NoCap cap = isNone cap ≡ true
 
 -- none, or one from 1 to 4,096 A
 abbrev pub CapWithin : Amperes → Type 0

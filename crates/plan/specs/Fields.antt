@@ -61,9 +61,9 @@ unfoldable pub connectorsOk : List ℕ → ℕ → ℕ → Bool
 connectorsOk b at to =
     leb (leAt 1 b at) 5 && bytesIn b (at + 1) (at + 1 + leAt 1 b at) 1 5 && zeros b (at + 1 + leAt 1 b at) to
 
--- the cap of a lead at at: eight zero bytes for none, else from 1 to 4,096 A (request 8)
+-- the cap of a lead at at: zero bytes for none, else from 1 to 4,096 A (request 8)
 unfoldable pub capOk : List ℕ → ℕ → Bool
-capOk b at = eqb (leAt 8 b at) 0 || inRange (leAt 8 b at) (ratio 1 1) (ratio 4096 1)
+capOk b at = zeros b at (at + 8) || inRange (leAt 8 b at) (ratio 1 1) (ratio 4096 1)
 
 -- max power from 0.125 to 1,024 kW, current from 1 to 4,096 A, voltage from 1 to 4,096 V; the caps by connector code, from 1
 abbrev pub chargerTests : List ℕ → List Bool

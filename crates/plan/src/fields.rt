@@ -125,13 +125,12 @@ fn connectors_ok(b: &[u8], at: usize, to: usize) -> bool
     (count <= 5) & bytes_in(b, at + 1, end, 1, 5) & zeros(b, end, to)
 }
 
-// The cap of a lead in the 8 bytes from at: none, or within its limits.
+// The cap of a lead in the 8 bytes from at: zero bytes for none, or within its limits.
 fn cap_ok(b: &[u8], at: usize) -> bool
     requires { ⌜ at + 8 ≤ length (now b) ⌝ }
     ensures { λ r. ⌜ r ≡ capOk (now (b .entry)) at ⌝ }
 {
-    let bits = u64_at(b, at);
-    (bits == 0) | in_range(bits, 1.0, 4096.0)
+    zeros(b, at, at + 8) | f64_in(b, at, 1.0, 4096.0)
 }
 
 pub fn charger_ok(b: &[u8]) -> bool

@@ -16,7 +16,7 @@ use Rattle.charger.specs.declared.charger.Charger.{Charger}
 use Rattle.charger.specs.declared.connector.Common.{Common}
 use Rattle.charger.specs.declared.connector.Common.the-variants.{Connector, Nothing}
 use Rattle.charger.specs.declared.vehicle.Vehicle.{Vehicle}
-use Rattle.charger.specs.Charger.{noCap, capOf, currentOf, withCurrent, actualMaxPower, powerBy, ratedPower}
+use Rattle.charger.specs.Charger.{noCap, isNone, capOf, currentOf, withCurrent, actualMaxPower, powerBy, ratedPower}
 use Rattle.charger.specs.Connector.{isConnector}
 use Rattle.charger.specs.Leads.{NoCap, CapWithin, ChargerWithin, uncapped, CapsLower}
 use Rattle.charger.specs.Lists.{All}
@@ -51,15 +51,15 @@ module _ (x : Charger) (w : ChargerWithin x) (code : ℕ) where
   cap-within : CapWithin cap
   cap-within = cap-one CapWithin x code (inl none-is-none) (w .caps)
 
-  there : eq (cap .0) (ratio 0 1) ≡ false → Drawn (cap .0)
+  there : isNone cap ≡ false → Drawn (cap .0)
   there h = ⊎-elim (λ (none : NoCap cap). absurd (true≢false (sym none ∙ h))) (λ (d : Drawn (cap .0)). d) cap-within
 
   pub current-drawn : Drawn (currentOf x code .0)
-  current-drawn = by-test (λ (c : Amperes). Drawn (c .0)) (eq (cap .0) (ratio 0 1)) (λ h. w .current) (λ h. least-one Drawn (cap .0) (x .current .0) (there h) (w .current))
+  current-drawn = by-test (λ (c : Amperes). Drawn (c .0)) (isNone cap) (λ h. w .current) (λ h. least-one Drawn (cap .0) (x .current .0) (there h) (w .current))
 
   current-below : T (le (currentOf x code .0) (x .current .0))
   current-below =
-      by-test (λ (c : Amperes). T (le (c .0) (x .current .0))) (eq (cap .0) (ratio 0 1))
+      by-test (λ (c : Amperes). T (le (c .0) (x .current .0))) (isNone cap)
       (λ h. le-self (x .current .0) (w .current .clear))
       (λ h. least-below (cap .0) (x .current .0) (there h .clear) (w .current .clear))
 

@@ -26,6 +26,7 @@ use Rattle.plan.specs.Plan.{checkBlocks}
 use Rattle.files.specs.Read.{pointAt, pointsOf, batteryOf, chargerOf, chargersOf, vehicleOf, vehicleIn, vehiclesOf, limitOf}
 use Rattle.plan.specs.declared.answer.Answer.the-variants.{Fine}
 use Rattle.charger.proofs.Lists.{and-true}
+use Rattle.plan.proofs.fields.Laws.{zeros-hold}
 use Rattle.plan.proofs.SearchLaws.{every-at, length-each, each-at, all-each}
 use Rattle.plan.proofs.blocks.Laws.{block-read}
 use Rattle.files.proofs.read.Accepted.{vehicle-tests, charger-tests, profile-tests, header-tests}
@@ -42,10 +43,10 @@ zero-bits = refl
 -- the test of a lead's cap: none, or one within its limits
 cap-within : (b : List ℕ) (at : ℕ) → capOk b at ≡ true → CapWithin (record { 0 = f64At b at })
 unfolding capOk
-cap-within b at h = go (eqb (leAt 8 b at) 0) refl
+cap-within b at h = go (zeros b at (at + 8)) refl
   where
-    go : (none : Bool) → eqb (leAt 8 b at) 0 ≡ none → CapWithin (record { 0 = f64At b at })
-    go true e = inl (rw (eqb-true (leAt 8 b at) 0 e) zero-bits)
+    go : (none : Bool) → zeros b at (at + 8) ≡ none → CapWithin (record { 0 = f64At b at })
+    go true e = inl (rw (zeros-hold b at 8 e) zero-bits)
     go false e = inr (from-bits (leAt 8 b at) (ratio 1 1) (ratio 4096 1) (rw e at h))
 
 -- the test of a site limit, where the limit is there

@@ -48,6 +48,12 @@ unfolding leAt
 leAt-drop zero a s at = refl
 leAt-drop (suc n) a s at = rw (getD-drop a s at 0, leAt-drop n a s (suc at), add-suc)
 
+-- a number of zero bytes is 0
+pub leAt-zero : (n : ℕ) (s : List ℕ) (at : ℕ) → ((k : ℕ) → at ≤ k → k < at + n → getD s k 0 ≡ 0) → leAt n s at ≡ 0
+unfolding leAt
+leAt-zero zero s at h = refl
+leAt-zero (suc n) s at h = omega (arith, h at (omega arith) (omega arith), leAt-zero n s (suc at) (λ k l m. h k (omega arith) (omega arith)))
+
 -- ---- a number that is written
 
 pub length-bytes : (n v : ℕ) → length (bytes n v) ≡ n
