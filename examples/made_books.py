@@ -2,7 +2,7 @@
 import struct
 
 from sitefiles.blocks import BLOCK, CHECK, joined
-from sitefiles.book import FIELDS, SESSION, SESSIONS_A_BLOCK
+from sitefiles.sessions import FIELDS, SESSIONS
 
 CHARGED = dict(vehicle=7, profile=1, charger=3, connector=5, outcome=1, arrival=100, plugin=160, unplug=2080, wait=60)
 CHARGED |= dict(charge_duration=1800.0, idle=120.0, peak_kw=50.0, energy_kwh=25.0, soc_start=0.25, soc_end=0.75)
@@ -13,7 +13,7 @@ EACH = [CHARGED, OPEN, RENEGED, BALKED]
 
 
 def session_bytes(session):
-    data = bytearray(SESSION)
+    data = bytearray(SESSIONS.length)
     for field in FIELDS:
         struct.pack_into(field.form, data, field.at, session.get(field.name, 0))
     return bytes(data)
@@ -21,11 +21,19 @@ def session_bytes(session):
 
 def book_bytes(sessions, engine=1, ended=1, used=3000):
     header = b"BOOK" + struct.pack("<HBBQ", len(sessions), engine, ended, used)
-    groups = [sessions[k : k + SESSIONS_A_BLOCK] for k in range(0, len(sessions), SESSIONS_A_BLOCK)]
-    return joined([header] + [b"".join(map(session_bytes, group)) for group in groups])
+    return joined([header] + session_blocks(sessions))
+
+
+def session_blocks(sessions):
+    return in_blocks(SESSIONS, list(map(session_bytes, sessions)))
+
+
+def in_blocks(rows, each):
+    """The bodies of the blocks that these rows take."""
+    return [b"".join(each[k : k + rows.a_block]) for k in range(0, len(each), rows.a_block)]
 
 
 def altered(data, at, new):
-    """The book with other bytes from a place on, and with the checks of its blocks right again."""
+    """The file with other bytes from a place on, and with the checks of its blocks right again."""
     data = data[:at] + new + data[at + len(new) :]
     return joined(data[start : start + CHECK] for start in range(0, len(data), BLOCK))

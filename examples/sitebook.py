@@ -1,7 +1,8 @@
 #!/usr/bin/env python3
-"""Plans from text, and books as text, tables and pictures.
+"""Plans from text, books as text, tables and pictures, and dumps in words.
 
 The program target/bin/site reads what `input` writes, and writes what `show` and the others read: a book or a refusal.
+`dump` reads what the call site_dump writes.
 FILE is standard input where it is left out or is -.
 Exit status: 0 done; 1 a file cannot be read, is damaged, or is a refusal; 2 wrong usage.
 """
@@ -10,7 +11,7 @@ import os
 import struct
 import sys
 
-from sitefiles import book, plan, refusal, tables, text
+from sitefiles import book, dump, plan, refusal, tables, text
 from sitefiles.blocks import Damaged
 from sitefiles.picture import picture
 
@@ -56,20 +57,23 @@ def read_plan(name):
         raise Failed(str(faults)) from None
 
 
-def read_output(name, of_plan=None):
-    """What the program wrote: a book, or a refusal."""
-    data = file_bytes(name)
+def read_file(name, reader, of_plan):
+    """What a reader takes a file's bytes for, once it has tested them, with a plan also against that."""
     try:
-        if not data:
-            raise Damaged("it is empty; the program writes a book or a refusal for every input")
-        if not data.startswith(b"BOOK"):
-            return refusal.read(data)
-        read = book.read(data)
-        if of_plan is not None:
-            book.test_against(read, of_plan)
-        return read
+        return reader(file_bytes(name), of_plan)
     except Damaged as damage:
         raise Failed(f"{spoken(name)}: {damage}") from None
+
+
+def book_or_refusal(data, of_plan):
+    if not data:
+        raise Damaged("it is empty; the program writes a book or a refusal for every input")
+    return book.read(data, of_plan) if data.startswith(b"BOOK") else refusal.read(data)
+
+
+def read_output(name, of_plan=None):
+    """What the program wrote: a book, or a refusal."""
+    return read_file(name, book_or_refusal, of_plan)
 
 
 def read_book(name, of_plan=None):
@@ -136,6 +140,12 @@ def draw(options):
     warn(read, of_plan)
 
 
+def show_dump(options):
+    of_plan = read_plan(options.plan)
+    read = read_file(options.file, dump.read, of_plan)
+    print("\n".join(dump.in_words(read, of_plan)))
+
+
 # ---- the command line
 
 
@@ -169,16 +179,17 @@ def parser():
     fed.add_argument("allowance", metavar="ALLOWANCE", type=number_below(2**32), help="units after which the run stops, at most 10000000")
     fed.add_argument("plan", metavar="day.plan")
 
-    add_book(command("show", show, "show a book as a table, or a refusal in words"))
-    add_book(command("csv", write_csv, "write all fields of all sessions as CSV"))
-    add_book(command("picture", draw, "draw a book's day as SVG"))
+    add_files(command("show", show, "show a book as a table, or a refusal in words"))
+    add_files(command("csv", write_csv, "write all fields of all sessions as CSV"))
+    add_files(command("picture", draw, "draw a book's day as SVG"))
+    add_files(command("dump", show_dump, "show a dump in words; without its plan, vehicles and chargers by their blocks"))
 
     summed = command("totals", write_totals, "sum up books")
     summed.add_argument("files", metavar="FILE", nargs="+")
     return whole
 
 
-def add_book(command):
+def add_files(command):
     command.add_argument("--plan", metavar="PLAN", help="the plan of the run, as description or as bytes: for warnings, places and names")
     command.add_argument("file", metavar="FILE", nargs="?", default="-")
 

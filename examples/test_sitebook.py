@@ -1,6 +1,7 @@
 """The command line: what goes to standard output, what to standard error, and the exit status."""
 import csv
 import io
+import struct
 import subprocess
 import sys
 import tempfile
@@ -10,7 +11,8 @@ from unittest import mock
 
 import sitebook
 from made_books import CHARGED, EACH, OPEN, RENEGED, book_bytes
-from sitefiles import book
+from made_dumps import PLAN, WAITING, dump_bytes
+from sitefiles import book, dump
 from sitefiles.tables import exact
 
 HERE = Path(__file__).parent
@@ -111,6 +113,8 @@ class Plans(Commands):
             ["input", "steps", "1_000", "day.plan"],
             ["show", "--plan"],
             ["totals"],
+            ["dump", "--plan"],
+            ["dump", "a", "b"],
         ]:
             status, out, said = self.run_tool(*words)
             self.assertEqual((status, out), (2, b""), words)
@@ -165,6 +169,12 @@ class Books(Commands):
         self.assertRegex(lines[1], r"  block 7 of .*day.txt, vehicle 7001, line \d+: vehicle 7001 profile 1 ")
         self.assertRegex(lines[2], r"  block 4 of .*day.txt, charger 101, line \d+: charger 101 power 75 kW ")
 
+    def test_refusals_of_dumps_in_words(self):
+        for line, saying in [(b"13 0 0\n", "the buffer for the dump is shorter than 16,384 bytes"), (b"14 0 0\n", "the dump is not that of this plan")]:
+            status, out, said = self.run_tool("show", "--plan", HERE / "day.txt", stdin=line)
+            self.assertEqual((status, said, out.count(b"\n")), (1, "", 1))
+            self.assertIn(saying, out.decode())
+
     def test_damage_is_refused_by_every_command(self):
         torn = self.file("torn.book", RECORDED_BOOK[:-1])
         for words in [["show", torn], ["csv", torn], ["totals", torn], ["picture", torn]]:
@@ -213,6 +223,32 @@ class Books(Commands):
         path = self.file("day.book", RECORDED_BOOK)
         self.assertTrue(self.succeeds("picture", path).startswith(b"<svg "))
         self.assertIn(b"charger 103", self.succeeds("picture", "--plan", HERE / "day.txt", path))
+
+
+class Dumps(Commands):
+    WHOLE = dump_bytes(**WAITING)
+
+    def test_dump(self):
+        shown = self.succeeds("dump", stdin=self.WHOLE).decode()
+        self.assertEqual(shown.split("\n"), dump.in_words(dump.read(self.WHOLE)) + [""])
+        self.assertIn("vehicle of block 7", shown)
+
+    def test_dump_with_its_plan(self):
+        path, of_plan = self.file("day.dump", self.WHOLE), self.file("day.plan", PLAN.data())
+        self.assertIn(b"charger 3 with vehicle 7\n", self.succeeds("dump", "--plan", of_plan, path))
+
+    def test_a_limit_that_events_ignore_is_warned_of(self):
+        limited = self.file("day.plan", b"".join([PLAN.data()[:12], b"\1\0\0\0", struct.pack("<d", 90), PLAN.data()[24:]]))
+        self.assertIn(b"warning: the plan limits the site to 90 kW", self.succeeds("dump", "--plan", limited, stdin=self.WHOLE))
+
+    def test_what_is_no_dump_of_the_plan(self):
+        torn = self.file("torn.dump", self.WHOLE[:-1])
+        self.assertEqual(
+            self.fails("dump", torn), f"{torn}: the file has 1535 bytes, which is no multiple of 512: it is cut off, or something was added\n"
+        )
+        self.assertIn("standard input: the file does not begin with the letters DUMP", self.fails("dump", stdin=RECORDED_BOOK))
+        self.assertIn("standard input: block 7 of ", self.fails("dump", "--plan", HERE / "bay.txt", stdin=self.WHOLE))
+        self.assertIn("none.dump", self.fails("dump", "none.dump"))
 
 
 if __name__ == "__main__":

@@ -1,20 +1,22 @@
-/* The joined site engine for C and C++: check a plan, run a plan.
+/* The joined site engine for C and C++: check a plan, run it, dump a run and continue it.
  *
  * `rt staticlib calls` proves the functions and writes target/staticlib/libcalls.a, for x86-64 Linux. It needs nothing
  * but memcpy and memset, so no further library is named:
  *
  *     cc main.c -Iinclude target/staticlib/libcalls.a
  *
- * docs/FORMATS.md describes the plan and the book byte by byte, and the refusals.
+ * docs/FORMATS.md describes the plan, the book and the dump byte by byte, and the refusals.
  *
- * What holds of both calls:
- * - Every plan gets an answer, also one that is damaged or no plan at all. Nothing needs to be tested before a call.
+ * What holds of every call:
+ * - Every plan and every dump gets an answer, also one that is damaged or none at all. Nothing needs to be tested before a
+ *   call.
  * - A call is a function of its arguments alone. It allocates nothing, keeps no pointer and has no state, so calls may run
- *   on several threads at once, each with its own `book` and `numbers`; a plan may be shared.
+ *   on several threads at once, each with its own buffers to write and its own `numbers`; what is only read may be shared.
  * - No pointer may be null, also where its length is 0. The buffers of one call may not overlap. `numbers` is aligned as
- *   uint64_t; `plan` and `book` may begin anywhere.
- * - A call takes at most SITE_RUN_STACK or SITE_CHECK_STACK bytes of stack; examples/c/stack.c measures it against them. Give
- *   a thread that calls them 256 KiB or more: the usual 8 MiB is plenty, the 128 KiB of a thread under musl are too few.
+ *   uint64_t; `plan`, `book` and `dump` may begin anywhere.
+ * - A refused call writes `numbers` and nothing else.
+ * - Each call has its SITE_.._STACK, the most bytes of stack that it takes; examples/c/stack.c measures it against them. Give
+ *   a thread that calls them 512 KiB or more: the usual 8 MiB is plenty, the 128 KiB of a thread under musl are too few.
  * - Floats are computed as C starts them: rounded to nearest, subnormal numbers kept. A program that was linked with
  *   -ffast-math changes that.
  */
@@ -28,18 +30,21 @@
 extern "C" {
 #endif
 
-/* Lengths in bytes: a longer plan is refused by 4, a shorter book by 3. */
+/* Lengths in bytes: a longer plan is refused by 4, a shorter buffer for the book by 3, one for the dump by 13. */
 #define SITE_PLAN_MOST 57856
 #define SITE_BOOK_LEAST 7168
+#define SITE_DUMP_LEAST 16384
 
 /* The most stack that a call takes, in bytes. */
 #define SITE_CHECK_STACK 40960
-#define SITE_RUN_STACK 196608
+#define SITE_RUN_STACK 212992
+#define SITE_DUMP_STACK 114688
+#define SITE_CONTINUE_STACK 131072
 
-/* A larger allowance is refused by 2. */
+/* A larger allowance, also of further events, is refused by 2. */
 #define SITE_ALLOWANCE_MOST 10000000
 
-/* Engines; any other number is refused by 1. */
+/* Engines; any other number is refused by 1, and so are steps where a dump is asked for. */
 enum site_engine {
     SITE_EVENTS = 0, /* from event to event: fast, ignores the site limit */
     SITE_STEPS = 1   /* second by second: obeys the site limit */
@@ -47,7 +52,7 @@ enum site_engine {
 
 /* Where the eleven numbers of an answer stand. */
 enum site_number {
-    SITE_NUMBER,         /* 0: fine; 1 to 12: refused, and all numbers after the two places are 0 */
+    SITE_NUMBER,         /* 0: fine; 1 to 14: refused, and all numbers after the two places are 0 */
     SITE_PLACE,          /* the block that a refusal names, the first being 1; 0 is none */
     SITE_OTHER_PLACE,    /* for 12 the charger's block beside the vehicle's */
     SITE_USED,           /* units used: events handled, or rounds of one second */
@@ -79,11 +84,37 @@ void site_check(const uint8_t *plan, size_t plan_length, uint64_t numbers[SITE_N
  * allowance            units after which the run stops, at most SITE_ALLOWANCE_MOST: events to handle, or seconds to go
  *                      through. Under a larger allowance every closed session stays where and as it is in the book
  * book, book_length    at least SITE_BOOK_LEAST bytes. A book of n sessions takes 512 * (1 + (n + 4) / 5) bytes, n being
- *                      the sum of SITE_OPEN to SITE_BALKED; bytes behind it stay as they were. A refusal writes nothing
- * numbers              all eleven are written
+ *                      the sum of SITE_OPEN to SITE_BALKED; bytes behind it stay as they were
+ * numbers              all eleven are written: refusals 1 to 12, or how the run went
  */
 void site_run(const uint8_t *plan, size_t plan_length, uint32_t engine, uint32_t allowance, uint8_t *book, size_t book_length,
               uint64_t numbers[SITE_NUMBERS]);
+
+/* Runs a plan by events as site_run does, and dumps the state after the last handled event beside the book.
+ *
+ * plan, plan_length    the plan's bytes; read only
+ * engine               SITE_EVENTS
+ * allowance            events after which the run stops, at most SITE_ALLOWANCE_MOST
+ * book, book_length    as in site_run
+ * dump, dump_length    at least SITE_DUMP_LEAST bytes. A dump of e events and n sessions, the 16-bit numbers at its bytes 8
+ *                      and 10, takes 512 * (1 + (e + 30) / 31 + (n + 4) / 5) bytes; bytes behind it stay as they were
+ * numbers              all eleven are written: refusals 1, 2, 3, 13 and 4 to 12, tested in this order, or how the run went
+ */
+void site_dump(const uint8_t *plan, size_t plan_length, uint32_t engine, uint32_t allowance, uint8_t *book, size_t book_length,
+               uint8_t *dump, size_t dump_length, uint64_t numbers[SITE_NUMBERS]);
+
+/* Continues a dumped run. Book and numbers are those of the unbroken run by events up to the dump's handled count and the
+ * further events together; units used count from the run's start.
+ *
+ * plan, plan_length    the bytes of the plan that was dumped; read only
+ * dump, dump_length    bytes that begin with the dump; read only. Those behind it are not read
+ * further              events to handle from there, at most SITE_ALLOWANCE_MOST
+ * book, book_length    as in site_run
+ * numbers              all eleven are written: refusals 2 to 12 and 14, tested in this order, or how the run went. 14: the
+ *                      bytes do not begin with the dump of this plan after the handled count that they name
+ */
+void site_continue(const uint8_t *plan, size_t plan_length, const uint8_t *dump, size_t dump_length, uint32_t further, uint8_t *book,
+                   size_t book_length, uint64_t numbers[SITE_NUMBERS]);
 
 #ifdef __cplusplus
 }

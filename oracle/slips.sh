@@ -2,15 +2,23 @@
 # Builds the copy with each slip in turn. The comparison must find each; it stops where one stays hidden.
 cd "$(dirname "$0")" || exit 2
 cases=${1:-20000}
-for slip in $(sed -n 's/^ *"\([a-z-]*\)",$/\1/p; s/^ *("\([a-z-]*\)", change.*/\1/p' original/slips.rs); do
-    SLIP=$slip SITE_ARCHIVE='' cargo build -q -j1 --offline --release --target-dir target/slips --bin compare || exit 2
-    target/slips/release/compare --cases "$cases" >"target/slips/$slip.txt"
-    status=$?
-    if [ "$status" -eq 0 ]; then
-        echo "$slip: NOT FOUND in $cases cases"
-        exit 1
-    fi
-    # A difference has status 1; with any other nothing was compared.
-    [ "$status" -eq 1 ] || exit 2
-    echo "$slip: $(sed -n 's/^DIFFERENCE in \(case [0-9]*\).*/found in \1/p' "target/slips/$slip.txt"), shrunk to $(sed -n '/^SHRUNK/,$p' "target/slips/$slip.txt" | grep -c '^  vehicle') vehicle(s)"
-done
+
+# LIST OPTION: the slips of a list, found by the comparison with this option
+try_all() {
+    for slip in $(sed -n 's/^ *"\([a-z-]*\)",$/\1/p; s/^ *("\([a-z-]*\)", change.*/\1/p; s/^ *slip("\([a-z-]*\)",.*/\1/p' "$1"); do
+        SLIP=$slip SITE_ARCHIVE='' cargo build -q -j1 --offline --release --target-dir target/slips --bin compare || exit 2
+        # shellcheck disable=SC2086
+        target/slips/release/compare $2 --cases "$cases" >"target/slips/$slip.txt"
+        status=$?
+        if [ "$status" -eq 0 ]; then
+            echo "$slip: NOT FOUND in $cases cases"
+            exit 1
+        fi
+        # A difference has status 1; with any other nothing was compared.
+        [ "$status" -eq 1 ] || exit 2
+        echo "$slip: $(sed -n 's/^DIFFERENCE in \(case [0-9]*\).*/found in \1/p' "target/slips/$slip.txt"), shrunk to $(sed -n '/^SHRUNK/,$p' "target/slips/$slip.txt" | grep -c '^  vehicle') vehicle(s)"
+    done
+}
+
+try_all original/slips.rs ''
+try_all slipped/dump_slips.rs --dumps

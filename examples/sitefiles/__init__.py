@@ -1,1 +1,1 @@
-"""Plans and books: reading, writing and showing them. docs/FORMATS.md has every byte."""
+"""Plans, books and dumps: reading, writing and showing them. docs/FORMATS.md has every byte."""

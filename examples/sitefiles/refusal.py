@@ -1,4 +1,4 @@
-"""The line that the program writes for a refused plan, in words."""
+"""A refusal's line, its number and two places, in words."""
 import re
 from dataclasses import dataclass
 
@@ -7,7 +7,7 @@ from sitefiles.blocks import Damaged
 LINE = re.compile(rb"(\d{1,2}) (\d{1,3}) (\d{1,3})\n?")
 
 RULES = {
-    1: "the engine is neither 0 (events) nor 1 (steps)",
+    1: "the engine is neither 0 (events) nor 1 (steps), or it is steps and a dump was asked for",
     2: "the allowance is above 10,000,000 units",
     3: "the buffer for the book is shorter than 7,168 bytes",
     4: "the plan is empty, or not made of whole blocks of 512 bytes, or longer than 113 blocks",
@@ -19,6 +19,8 @@ RULES = {
     10: "the id is used by an earlier block of the same kind",
     11: "no profile has the id that the vehicle names",
     12: "the vehicle fits the charger, and charging it there would take longer than 604,800 s (a week)",
+    13: "the buffer for the dump is shorter than 16,384 bytes",
+    14: "the dump is not that of this plan after the number of handled events that it names",
 }
 
 
@@ -35,12 +37,12 @@ def read(data):
     match = LINE.fullmatch(data)
     number, *places = map(int, match.groups()) if match else (0,)
     if number not in RULES:
-        raise Damaged("neither a book (it does not begin with the letters BOOK) nor a refusal (a number from 1 to 12 and two places)")
+        raise Damaged(f"neither a book (it does not begin with the letters BOOK) nor a refusal (a number from 1 to {max(RULES)} and two places)")
     return Refusal(number, tuple(place for place in places if place))
 
 
 def in_words(refusal, plan=None):
-    """Lines that say which rule the plan breaks, and where."""
+    """Lines that say which rule is broken, and where."""
     return [f"refused by {refusal.number}: {RULES[refusal.number]}"] + [f"  {where(place, plan)}" for place in refusal.places]
 
 

@@ -3,8 +3,8 @@ import csv
 import math
 from dataclasses import astuple, dataclass, fields
 
-from sitefiles.book import OUTCOMES, Session
 from sitefiles.clock import spelled
+from sitefiles.sessions import OUTCOMES, Session
 
 CSV_HEADER = {
     "arrival": "arrival_s",

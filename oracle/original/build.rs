@@ -4,10 +4,14 @@
 use std::path::{Path, PathBuf};
 use std::{env, fs};
 
+mod change;
 mod changes;
+#[path = "../slipped/dump_slips.rs"]
+mod dump_slips;
 mod slips;
 
-use changes::{CHANGES, Change};
+use change::{Change, changed, stop};
+use changes::CHANGES;
 
 /// Each module with its files. The original's own `mod.rs` files are not among those published.
 const MODULES: [(&str, &[&str]); 8] = [
@@ -59,21 +63,16 @@ fn original_folder() -> PathBuf {
     folder
 }
 
-/// Makes the build fail with this message. (A status other than 0 would have cargo print all that was written so far.)
-fn stop(message: &str) -> ! {
-    for line in message.lines() {
-        println!("cargo::error={line}");
-    }
-    std::process::exit(0)
-}
-
-/// The one further change that SLIP asks for; without SLIP the slipped copy is the original.
+/// The one further change that SLIP asks for; without SLIP, and where it names a slip of the oracle's calls, the slipped
+/// copy is the original.
 fn slip() -> Option<Change> {
     let name = env::var("SLIP").ok().filter(|name| !name.is_empty())?;
-    let found = slips::SLIPS.iter().find(|(known, _)| *known == name);
-    let names: Vec<&str> = slips::SLIPS.iter().map(|(known, _)| *known).collect();
-    let (_, change) = found.unwrap_or_else(|| stop(&format!("SLIP is {name}; known are: {}.", names.join(", "))));
-    Some(*change)
+    let found = slips::SLIPS.iter().find(|(known, _)| *known == name).map(|(_, change)| *change);
+    let names: Vec<&str> = slips::SLIPS.iter().chain(&dump_slips::DUMP_SLIPS).map(|(known, _)| *known).collect();
+    if !names.contains(&name.as_str()) {
+        stop(&format!("SLIP is {name}; known are: {}.", names.join(", ")));
+    }
+    found
 }
 
 fn copy(from: &Path, to: &Path, file: &str, changes: &[Change]) {
@@ -87,20 +86,6 @@ fn copy(from: &Path, to: &Path, file: &str, changes: &[Change]) {
     let target = to.join(file);
     fs::create_dir_all(target.parent().unwrap()).unwrap();
     fs::write(target, text).unwrap();
-}
-
-fn changed(text: &str, change: &Change) -> String {
-    let matches = text.matches(change.old).count();
-    if matches != 1 {
-        let what = format!("in {} this text stands {matches} times and not once", change.file);
-        stop(&format!(
-            "The original has changed: {what}:\n\n{}\n\nLook at original/changes.rs and original/slips.rs.",
-            change.old
-        ));
-    }
-    let at = text.find(change.old).unwrap();
-    let rest = if change.to_the_end { "" } else { &text[at + change.old.len()..] };
-    format!("{}{}{rest}", &text[..at], change.new)
 }
 
 /// A module of one file is that file; a folder's items stand in the folder's module, as its `mod.rs` would have it.

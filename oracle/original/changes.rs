@@ -1,22 +1,10 @@
-//! Every change that the copied source undergoes. A text must stand exactly once in its file, else the build stops.
-
-#[derive(Clone, Copy)]
-pub struct Change {
-    pub file: &'static str,
-    pub old: &'static str,
-    pub new: &'static str,
-    /// All from the old text to the file's end is replaced.
-    pub to_the_end: bool,
-}
-
-pub const fn change(file: &'static str, old: &'static str, new: &'static str) -> Change {
-    Change { file, old, new, to_the_end: false }
-}
+//! Every change that the copied source undergoes.
+use crate::change::{Change, change};
 
 const STD_HEAP: &str = "use std::collections::BinaryHeap;\n";
 const STAND_IN_HEAP: &str = "use binary_heap::BinaryHeap;\n";
 
-pub const CHANGES: [Change; 20] = [
+pub const CHANGES: [Change; 22] = [
     // The stand-in for the heap, and what it pops by, which is request 4's. (The map's stand-in takes the crate's own name.)
     change("containers/vehicle_list.rs", STD_HEAP, STAND_IN_HEAP),
     change("evse/charger.rs", STD_HEAP, STAND_IN_HEAP),
@@ -87,6 +75,30 @@ const DEFAULT_MAX_POWER_KW: f64 = 480.0;
             lead_currents_a: [self.max_current_a.unwrap_or(DEFAULT_MAX_CURRENT_A); 5],
 ",
     ),
+    // Request 1: what a dump shows, with the accessors among those of the event loop below.
+    change(
+        "events.rs",
+        "    pub(crate) time: u64,
+    pub(crate) event_type: EventType,
+    pub(crate) vehicle_id: Uuid,
+    pub(crate) charger_id: Option<Uuid>,
+",
+        "    pub time: u64,
+    pub event_type: EventType,
+    pub vehicle_id: Uuid,
+    pub charger_id: Option<Uuid>,
+",
+    ),
+    change(
+        "containers/waiting_queue.rs",
+        "impl WaitingQueue {\n",
+        "impl WaitingQueue {
+    pub fn ids(&self) -> Vec<Uuid> {
+        self.0.iter().copied().collect()
+    }
+
+",
+    ),
     // The builder of vehicles samples; the oracle makes vehicles from the plan.
     change("ev/vehicle.rs", "use crate::distributions::{DurationSampler, ItemSampler, SocSampler};\n", ""),
     change("ev/vehicle.rs", "use rand::Rng;\n", ""),
@@ -118,6 +130,21 @@ const DEFAULT_MAX_POWER_KW: f64 = 480.0;
 
     pub fn queued(&self) -> usize {
         self.waiting_queue.len()
+    }
+
+    pub fn queue(&self) -> Vec<uuid::Uuid> {
+        self.waiting_queue.ids()
+    }
+
+    pub fn pending(&self) -> Vec<&Event> {
+        self.event_queue.in_turn()
+    }
+
+    /// Each busy charger in plan order, with the vehicle that its unplug names.
+    pub fn busy(&self) -> Vec<(uuid::Uuid, uuid::Uuid)> {
+        let vehicle_at = |charger| self.event_queue.iter().find(|event| event.charger_id == Some(charger));
+        let busy = self.site.chargers.iter().filter(|charger| charger.is_busy);
+        busy.map(|charger| (charger.id, vehicle_at(charger.id).unwrap().vehicle_id)).collect()
     }
 
     ///

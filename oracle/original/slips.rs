@@ -1,5 +1,5 @@
 //! Slips, each one further change, for a copy that the comparison must tell from the original.
-use crate::changes::{Change, change};
+use crate::change::{Change, change};
 
 pub const SLIPS: [(&str, Change); 21] = [
     // The order of one second.

@@ -18,7 +18,11 @@ pub struct Run {
 
 impl Run {
     pub fn new(plan: &[u8], engine: u32, allowance: u32) -> Self {
-        let mut book = vec![0; LEAST_BOOK];
+        Self::onto(plan, engine, allowance, vec![0; LEAST_BOOK])
+    }
+
+    /// A run that writes onto this book.
+    pub fn onto(plan: &[u8], engine: u32, allowance: u32, mut book: Vec<u8>) -> Self {
         let numbers = run(plan, engine, allowance, &mut book);
         Self { numbers, book }
     }

@@ -44,3 +44,8 @@ pub fn seal_all(blocks: &mut [u8]) {
         seal(block, k + 1);
     }
 }
+
+/// The 64-bit FNV-1a hash of bytes.
+pub fn hash(bytes: &[u8]) -> u64 {
+    bytes.iter().fold(0xcbf2_9ce4_8422_2325, |sum, byte| (sum ^ u64::from(*byte)).wrapping_mul(0x100_0000_01b3))
+}

@@ -39,11 +39,16 @@ pub fn write(book: &mut [u8], engine: u8, ended: bool, used: u64, entries: &[Ent
     book[6] = engine;
     book[7] = u8::from(ended);
     put(book, 8, &used.to_le_bytes());
-    for (k, entry) in entries.iter().enumerate() {
-        let at = BLOCK * (1 + k / SESSIONS_A_BLOCK) + SESSION * (k % SESSIONS_A_BLOCK);
-        write_entry(&mut book[at..at + SESSION], entry);
-    }
+    write_sessions(&mut book[BLOCK..], entries);
     seal_all(book);
+}
+
+/// Lays sessions out five a block, in a book's blocks of sessions or a dump's, which are zero before.
+pub fn write_sessions(blocks: &mut [u8], entries: &[Entry]) {
+    for (k, entry) in entries.iter().enumerate() {
+        let at = BLOCK * (k / SESSIONS_A_BLOCK) + SESSION * (k % SESSIONS_A_BLOCK);
+        write_entry(&mut blocks[at..at + SESSION], entry);
+    }
 }
 
 fn write_entry(session: &mut [u8], entry: &Entry) {

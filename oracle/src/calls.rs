@@ -10,7 +10,7 @@ use crate::book::{self, Entry, LEAST_BOOK};
 use crate::plan::{self, LONGEST_STAY, Plan, Refusal};
 use uuid::Uuid;
 
-const MOST_UNITS: u32 = 10_000_000;
+pub const MOST_UNITS: u32 = 10_000_000;
 
 const CONNECTORS: [ConnectorType; 5] =
     [ConnectorType::Ccs1, ConnectorType::Ccs2, ConnectorType::Chademo, ConnectorType::Gbt, ConnectorType::Nacs];
@@ -31,7 +31,7 @@ pub fn run(plan: &[u8], engine: u32, allowance: u32, book: &mut [u8]) -> Numbers
     }
 }
 
-fn refused(refusal: Refusal) -> Numbers {
+pub fn refused(refusal: Refusal) -> Numbers {
     let mut numbers = [0; 11];
     numbers[0] = refusal.number;
     numbers[1..3].copy_from_slice(&refusal.places);
@@ -39,21 +39,25 @@ fn refused(refusal: Refusal) -> Numbers {
 }
 
 fn arguments(engine: u32, allowance: u32, book: usize) -> Result<(), Refusal> {
-    let wrong = [engine > 1, allowance > MOST_UNITS, book < LEAST_BOOK];
-    match wrong.iter().position(|wrong| *wrong) {
-        Some(k) => Err(Refusal::new(k as u64 + 1, 0, 0)),
+    first_of(&[(1, engine > 1), (2, allowance > MOST_UNITS), (3, book < LEAST_BOOK)])
+}
+
+/// The first refusal whose condition holds, in the order given; its places are 0, 0.
+pub fn first_of(refusals: &[(u64, bool)]) -> Result<(), Refusal> {
+    match refusals.iter().find(|(_, holds)| *holds) {
+        Some((number, _)) => Err(Refusal::new(*number, 0, 0)),
         None => Ok(()),
     }
 }
 
-fn accepted(bytes: &[u8]) -> Result<Accepted, Refusal> {
+pub fn accepted(bytes: &[u8]) -> Result<Accepted, Refusal> {
     let mut accepted = Accepted::new(plan::read(bytes)?);
     accepted.pairs_charge()?;
     Ok(accepted)
 }
 
 /// A plan past refusals 4 to 11, with the original's objects made from it.
-struct Accepted {
+pub struct Accepted {
     plan: Plan,
     profiles: Vec<ChargeProfile>,
     chargers: Vec<Charger>,
@@ -82,24 +86,54 @@ impl Accepted {
     }
 
     fn run(self, engine: u32, allowance: u32, book: &mut [u8]) -> Numbers {
+        if engine == 0 {
+            let mut run = self.by_events();
+            run.go_on(allowance);
+            return run.answer(book);
+        }
+        let (plan, site, vehicles, profiles) = self.parts();
+        let mut simulation = TimeStepSimulation::new(site, vehicles, profiles);
+        let used = simulation.run(allowance).expect("ids are places");
+        let counts = [simulation.yet_to_arrive(), simulation.queued()];
+        answer(1, used, simulation.ended(), counts, &entries(&plan, simulation.get_sessions()), book)
+    }
+
+    fn parts(self) -> (Plan, Site, VehicleList, ChargeProfileList) {
         let Self { plan, profiles, chargers, vehicles } = self;
         let mut site = Site::new("", chargers, Coords { latitude: 0.0, longitude: 0.0 });
         if let Some(limit) = plan.limit {
             site.site_max_power_kw(limit);
         }
-        let vehicles = VehicleList::new(vehicles);
-        let profiles = ChargeProfileList::new(profiles);
-        if engine == 0 {
-            let mut simulation = DiscreteEventSimulation::new(site, vehicles, profiles);
-            let used = simulation.run(allowance).expect("ids are places");
-            let counts = [simulation.yet_to_arrive(), simulation.queued()];
-            answer(&plan, 0, used, simulation.ended(), counts, simulation.get_sessions(), book)
-        } else {
-            let mut simulation = TimeStepSimulation::new(site, vehicles, profiles);
-            let used = simulation.run(allowance).expect("ids are places");
-            let counts = [simulation.yet_to_arrive(), simulation.queued()];
-            answer(&plan, 1, used, simulation.ended(), counts, simulation.get_sessions(), book)
-        }
+        (plan, site, VehicleList::new(vehicles), ChargeProfileList::new(profiles))
+    }
+
+    /// The run by events at its start.
+    pub fn by_events(self) -> EventRun {
+        let (plan, site, vehicles, profiles) = self.parts();
+        EventRun { plan, simulation: DiscreteEventSimulation::new(site, vehicles, profiles), used: 0 }
+    }
+}
+
+/// A run by events after the events used.
+pub struct EventRun {
+    pub plan: Plan,
+    pub simulation: DiscreteEventSimulation,
+    pub used: u32,
+}
+
+impl EventRun {
+    /// Pops up to so many further events.
+    pub fn go_on(&mut self, events: u32) {
+        self.used += self.simulation.run(events).expect("ids are places");
+    }
+
+    pub fn sessions(&self) -> Vec<Entry> {
+        entries(&self.plan, self.simulation.get_sessions())
+    }
+
+    pub fn answer(&self, book: &mut [u8]) -> Numbers {
+        let counts = [self.simulation.yet_to_arrive(), self.simulation.queued()];
+        answer(0, self.used, self.simulation.ended(), counts, &self.sessions(), book)
     }
 }
 
@@ -164,19 +198,21 @@ fn vehicle(place: usize, block: &plan::Vehicle) -> Vehicle {
 }
 
 fn answer(
-    plan: &Plan,
     engine: u8,
     used: u32,
     ended: bool,
     [yet_to_arrive, queued]: [usize; 2],
-    sessions: &[Session],
+    entries: &[Entry],
     book: &mut [u8],
 ) -> Numbers {
-    let entries: Vec<Entry> = sessions.iter().map(|session| entry(plan, session)).collect();
-    book::write(book, engine, ended, u64::from(used), &entries);
+    book::write(book, engine, ended, u64::from(used), entries);
     let of = |outcome: u8| entries.iter().filter(|entry| entry.outcome == outcome).count() as u64;
     let (used, ended) = (u64::from(used), u64::from(ended));
     [0, 0, 0, used, ended, yet_to_arrive as u64, queued as u64, of(0), of(1), of(2), of(3)]
+}
+
+fn entries(plan: &Plan, sessions: &[Session]) -> Vec<Entry> {
+    sessions.iter().map(|session| entry(plan, session)).collect()
 }
 
 fn entry(plan: &Plan, session: &Session) -> Entry {

@@ -2,7 +2,7 @@
 mod faults;
 mod site;
 
-use crate::blocks::BLOCK;
+use crate::blocks::{BLOCK, put};
 use crate::book::LEAST_BOOK;
 use crate::draft::Draft;
 use crate::draw::Draw;
@@ -49,6 +49,15 @@ pub const SHAPES: [Shape; 20] = [
     ("cut or extended", 3, cut_or_extended),
 ];
 
+/// For dumps: many cars, most of which wait for long.
+const CROWD: Shape = ("crowd", 0, crowd);
+
+/// A case whose run is dumped: a crowd now and then.
+pub fn for_dumps(seed: u64, index: u64) -> Case {
+    let mut draw = Draw::new(seed ^ 1 << 63, index);
+    if draw.one_in(40) { shaped(CROWD.0, &mut draw) } else { case(seed, index) }
+}
+
 pub fn case(seed: u64, index: u64) -> Case {
     let mut draw = Draw::new(seed, index);
     let mut at = draw.below(SHAPES.iter().map(|(_, weight, _)| weight).sum());
@@ -63,7 +72,7 @@ pub fn case(seed: u64, index: u64) -> Case {
 
 /// A case of the named shape.
 pub fn shaped(name: &str, draw: &mut Draw) -> Case {
-    let (name, _, make) = SHAPES.iter().find(|(known, _, _)| *known == name).expect("a known shape");
+    let (name, _, make) = SHAPES.iter().chain([&CROWD]).find(|(known, _, _)| *known == name).expect("a known shape");
     Case { shape: name, ..make(draw) }
 }
 
@@ -90,6 +99,18 @@ fn empty(draw: &mut Draw) -> Case {
     }
     let plan = draft.bytes();
     call(draw, plan, Clock::Short)
+}
+
+fn crowd(draw: &mut Draw) -> Case {
+    let mut draft = draft(draw, Style { chargers: [0, 32], vehicles: [30, 64], ..CONTENTION });
+    for vehicle in &mut draft.vehicles {
+        if !draw.one_in(8) {
+            put(vehicle, 48, &draw.among(500, 5_000).to_le_bytes());
+            put(vehicle, 56, &u32::MAX.to_le_bytes());
+        }
+    }
+    let plan = draft.bytes();
+    call_by(draw, plan, 0, Clock::Short)
 }
 
 /// An engine, an allowance and a book for a plan.

@@ -6,12 +6,15 @@ pub mod arguments;
 pub mod bay;
 pub mod blocks;
 pub mod book;
+pub mod cuts;
 pub mod draft;
 pub mod draw;
+pub mod dump;
 pub mod generate;
 pub mod hot_day;
 pub mod plan;
 pub mod program;
+pub mod recording;
 pub mod shrink;
 pub mod sides;
 pub mod slipped;
@@ -22,6 +25,7 @@ mod faithful;
 mod product;
 
 pub use faithful::calls::{check, run};
+pub use faithful::dump_calls::{dump, resume};
 
 /// Number, place, place, used, ended, yet to arrive, queued, open, charged, reneged, balked.
 pub type Numbers = [u64; 11];

@@ -12,6 +12,27 @@ unsafe extern "C" {
         book_len: usize,
         numbers: *mut [u64; 11],
     );
+    fn site_dump(
+        plan: *const u8,
+        plan_len: usize,
+        engine: u32,
+        allowance: u32,
+        book: *mut u8,
+        book_len: usize,
+        dump: *mut u8,
+        dump_len: usize,
+        numbers: *mut [u64; 11],
+    );
+    fn site_continue(
+        plan: *const u8,
+        plan_len: usize,
+        dump: *const u8,
+        dump_len: usize,
+        further: u32,
+        book: *mut u8,
+        book_len: usize,
+        numbers: *mut [u64; 11],
+    );
 }
 
 /// What stands in the answer before a call; each number must be written over.
@@ -30,5 +51,25 @@ pub fn run(plan: &[u8], engine: u32, allowance: u32, book: &mut [u8]) -> Numbers
     unsafe {
         site_run(plan.as_ptr(), plan.len(), engine, allowance, book.as_mut_ptr(), book.len(), &mut out);
     }
+    out
+}
+
+pub fn dump(plan: &[u8], engine: u32, allowance: u32, book: &mut [u8], dump: &mut [u8]) -> Numbers {
+    let mut out = [UNWRITTEN; 11];
+    let (plan, plan_len) = (plan.as_ptr(), plan.len());
+    let (book, book_len) = (book.as_mut_ptr(), book.len());
+    let (dump, dump_len) = (dump.as_mut_ptr(), dump.len());
+    // SAFETY: each pointer comes with the length of the memory it points to; there are always eleven numbers.
+    unsafe { site_dump(plan, plan_len, engine, allowance, book, book_len, dump, dump_len, &mut out) };
+    out
+}
+
+pub fn resume(plan: &[u8], dump: &[u8], further: u32, book: &mut [u8]) -> Numbers {
+    let mut out = [UNWRITTEN; 11];
+    let (plan, plan_len) = (plan.as_ptr(), plan.len());
+    let (dump, dump_len) = (dump.as_ptr(), dump.len());
+    let (book, book_len) = (book.as_mut_ptr(), book.len());
+    // SAFETY: each pointer comes with the length of the memory it points to; there are always eleven numbers.
+    unsafe { site_continue(plan, plan_len, dump, dump_len, further, book, book_len, &mut out) };
     out
 }

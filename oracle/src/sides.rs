@@ -1,15 +1,21 @@
 //! The side that is compared with the oracle, and what counts as a difference.
 use crate::arguments::stop;
+use crate::cuts::{self, Tally};
 use crate::generate::Case;
 use crate::{Numbers, program};
+use std::cell::RefCell;
 use std::io::Write;
 use std::path::PathBuf;
 use std::process::{Command, Stdio};
+use std::sync::LazyLock;
 
 #[cfg(product)]
-pub use crate::product::{check as other_check, run as other_run};
+pub use crate::product::{check as other_check, dump as other_dump, resume as other_resume, run as other_run};
 #[cfg(not(product))]
-pub use crate::slipped::calls::{check as other_check, run as other_run};
+pub use crate::slipped::{
+    calls::{check as other_check, run as other_run},
+    dump_calls::{dump as other_dump, resume as other_resume},
+};
 
 pub const OTHER: &str = if cfg!(product) {
     "the product"
@@ -22,6 +28,8 @@ pub const OTHER: &str = if cfg!(product) {
 pub enum Side {
     /// By call: the product where it is linked, else the slipped copy.
     Linked,
+    /// By call too: request 1's calls, dump and continue.
+    Dumps(RefCell<Tally>),
     /// By standard input and output.
     Program(PathBuf),
 }
@@ -31,13 +39,17 @@ impl Side {
     pub fn difference(&self, case: &Case) -> Option<String> {
         match self {
             Self::Linked => difference_by_call(case),
+            Self::Dumps(tally) => cuts::difference(case, &mut tally.borrow_mut()),
             Self::Program(path) => difference_by_program(path, case),
         }
     }
 }
 
+/// What stands in a buffer before a call. It is longer than every buffer of a case.
+static BEFORE: LazyLock<Vec<u8>> = LazyLock::new(|| (0..32_768).map(|k| (k % 251 + 3) as u8).collect());
+
 pub fn prefilled(len: usize) -> Vec<u8> {
-    (0..len).map(|k| (k % 251 + 3) as u8).collect()
+    BEFORE[..len].to_vec()
 }
 
 fn difference_by_call(case: &Case) -> Option<String> {
@@ -55,11 +67,11 @@ fn difference_by_call(case: &Case) -> Option<String> {
     first_byte(&wanted_book, &got_book)
 }
 
-fn numbers(numbers: &Numbers) -> String {
+pub fn numbers(numbers: &Numbers) -> String {
     numbers.map(|number| number.to_string()).join(" ")
 }
 
-fn first_byte(wanted: &[u8], got: &[u8]) -> Option<String> {
+pub fn first_byte(wanted: &[u8], got: &[u8]) -> Option<String> {
     let at = wanted.iter().zip(got).position(|(a, b)| a != b).unwrap_or(wanted.len().min(got.len()));
     if at == wanted.len() && at == got.len() {
         return None;

@@ -3,3 +3,6 @@ pub use slipped as original;
 
 #[path = "calls.rs"]
 pub mod calls;
+
+// `dump_calls`, copied at build time, with the slip where it is one of request 1.
+include!(concat!(env!("OUT_DIR"), "/slipped.rs"));

@@ -1,4 +1,6 @@
 // The calls for C and Rust. A slice is a pointer and a length; the eleven numbers go to an array of the caller's.
+mod dumps;
+
 use files::call::check;
 use files::call::run;
 use plan::answer::check_numbers;

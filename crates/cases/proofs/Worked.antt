@@ -2,7 +2,7 @@
 use Prim.Native.Nat.{ℕ}
 use mathlib.Core.Path.{_≡_, refl, ap, _∙_}
 use mathlib.Core.List.{List, _∷_}
-use lib.Ieee.{ofBits, eq, lt, le, ne, add, sub, mul, div, ofInt, toUnsigned}
+use lib.Ieee.{ofBits, toBits, eq, lt, le, ne, add, sub, mul, div, ofInt, toUnsigned}
 use Rattle.curve.specs.F64.{ratio, ceiling}
 use Rattle.curve.specs.Curve.{integrateOver, curveOf}
 use Rattle.charger.specs.Lists.{All, none, also}
@@ -17,7 +17,8 @@ use Rattle.power.specs.ChargerState as C
 use Rattle.power.specs.Power.{allocate}
 use Rattle.engine.specs.Timestep.{openSession, plugged, finalized, round}
 use Rattle.engine.specs.Demand.{Stop}
-use Rattle.plan.specs.Blocks.{passes, block}
+use Rattle.plan.specs.Bytes.{leAt, bytes, fields, pieces}
+use Rattle.plan.specs.Blocks.{words, checkOf, sealed, passes, block}
 use Rattle.plan.specs.Search.{firstIndex, every, each}
 use Rattle.plan.specs.Fields.{bytesIn, connectorsOk, capOk, pointCount, pointOk}
 use Rattle.plan.specs.Places.{kindAt}
@@ -26,6 +27,10 @@ use Rattle.files.specs.Read.{readPlan, pointsOf, curveOfProfile, batteryOf, cha
 use Rattle.files.specs.Pairs.{failingCharger, failingPair}
 use Rattle.files.specs.Check.{checkPlan}
 use Rattle.files.specs.Call.{stopOf}
+use Rattle.files.specs.BookSession.{vehicleNumber, chargerId, bookSessions, noSession}
+use Rattle.files.specs.SessionBlocks.{sessionBytes, slot, sessionBlock, sessionBlocks}
+use Rattle.dump.specs.EventBlocks.{eventBytes, eventSlot, eventBlock, eventBlocks}
+use Rattle.dump.specs.Dump.{table, headerBlock, dumpBytes, dumpOf}
 use Rattle.plan.specs.declared.answer.Answer.{Answer}
 use Rattle.plan.specs.declared.answer.Answer.the-variants.{Fine, Refused}
 use Rattle.plan.specs.declared.answer.Refusal.the-variants.{Broken, CannotCharge}
@@ -49,6 +54,12 @@ stop : ℕ → ℕ → Bay → Stop
 unfolding read before startCharging balks uncharged fits rated output stay ceiling D.step D.chargedSession
     allocate C.afterCharging afterIdling empty openSession plugged finalized round ofInt toUnsigned
 stop engine n b = stopOf (read b) engine n
+
+-- the dump of a plan's run
+dumped : ℕ → Bay → List ℕ
+unfolding stop dumpOf dumpBytes headerBlock table eventBlocks eventBlock eventSlot eventBytes sessionBlocks sessionBlock slot sessionBytes noSession
+    bookSessions vehicleNumber chargerId sealed checkOf words leAt bytes fields pieces toBits
+dumped n b = dumpOf (plan b) n
 
 -- ---- each plan is checked once
 
@@ -104,7 +115,7 @@ _and_ : {w : Worked} {ws : List Worked} → Holds w → All Holds ws → All Hol
 h and hs = also h hs
 
 pub worked-through : All Holds worked
-unfolding worked result stop
+unfolding worked result stop dumped
 worked-through =
     by events 10 bay bay-fine refl
     and by events 10 (secondCar 1800 10) m2-fine refl
@@ -122,4 +133,6 @@ worked-through =
     and by events 10 (atOneKw (kwh 169)) m12-refused refl
     and by events 10 (nacsCapped (record { 0 = ratio 125 2 })) lead-fine refl
     and by events 10 (nacsCapped (record { 0 = ratio 1 2 })) lead-refused refl
+    and refl
+    and refl
     and none

@@ -1,5 +1,5 @@
--- Rules. M1 to M12 of the paper's bay, and request 8 at it, worked through: one list of cases, each with what it gives.
-use Prim.Native.Nat.{ℕ, _-_}
+-- Rules. M1 to M12 of the paper's bay, and requests 8 and 1 at it, worked through: one list of cases, each with what it gives.
+use Prim.Native.Nat.{ℕ, _+_, _-_, _*_}
 use mathlib.Core.Path.{_≡_}
 use mathlib.Core.Bool.{Bool, true, false}
 use mathlib.Core.List.{List, [], _∷_, map}
@@ -21,6 +21,8 @@ use Rattle.engine.specs.SiteState.{uncharged}
 use Rattle.power.specs.ChargerState.{hours}
 use Rattle.power.specs.Power.{allocate}
 use Rattle.engine.specs.Demand.{Stop}
+use Rattle.plan.specs.Bytes.{leAt}
+use Rattle.plan.specs.Search.{each}
 use Rattle.files.specs.Read.{readPlan}
 use Rattle.files.specs.Check.{checkPlan}
 use Rattle.files.specs.Call.{stopOf}
@@ -29,6 +31,7 @@ use Rattle.plan.specs.declared.answer.Refusal.{Refusal}
 use Rattle.plan.specs.declared.answer.Refusal.the-variants.{Broken, CannotCharge}
 use Rattle.plan.specs.declared.answer.Answer.{Answer}
 use Rattle.plan.specs.declared.answer.Answer.the-variants.{Fine, Refused}
+use Rattle.dump.specs.Dump.{dumpOf, handledIn}
 use Rattle.cases.specs.Bay.{kw, kwh, seconds, percent, point, plan, bay, secondCar, atTarget, atOneKw, nacsCapped}
 
 -- ---- what a case is, and what it gives
@@ -47,6 +50,8 @@ pub data Case : Type 0 where
   charge : Kwh → List Point → Float → Float → Kw → Case
   -- power allocated to the bay's chargers under a site limit
   allot : Kw → List ChargerState → Case
+  -- a run of a plan's bytes by events, dumped after so many of them
+  dump : ℕ → List ℕ → Case
 
 pub data Result : Type 0 where
   -- the plan is fine; units used, ended, sessions
@@ -57,15 +62,29 @@ pub data Result : Type 0 where
   takes : ChargingOutput → Result
   -- a power cap for each charger
   caps : List Kw → Result
+  -- a dump's handled count, the queue's blocks, the busy chargers' blocks with their vehicles', the events' times, kinds and blocks
+  shows : ℕ → List ℕ → List ℕ → List (List ℕ) → Result
 
 abbrev pub ifFine : Answer → Stop → Result
 ifFine Fine s = stopped (s .used) (s .ended) (s .sessions)
 ifFine (Refused x) s = refused x
 
+-- m 16-bit numbers of a dump, from a place on
+abbrev pub wordsAt : List ℕ → ℕ → ℕ → List ℕ
+wordsAt b at m = each (λ k. leAt 2 b (at + 2 * k)) 0 m
+
+-- its first m events, which follow the header
+abbrev pub eventsAt : List ℕ → ℕ → List (List ℕ)
+eventsAt b m = each (λ k. leAt 8 b (512 + 16 * k) ∷ leAt 1 b (520 + 16 * k) ∷ leAt 2 b (522 + 16 * k) ∷ []) 0 m
+
+abbrev pub shown : List ℕ → Result
+shown b = shows (handledIn b) (wordsAt b 24 (leAt 2 b 4)) (wordsAt b 152 (2 * leAt 2 b 6)) (eventsAt b (leAt 2 b 8))
+
 unfoldable pub result : Case → Result
 result (run engine allowance plan) = ifFine (checkPlan plan) (stopOf (readPlan plan) engine allowance)
 result (charge battery points start target cap) = takes (integrateOver (curveOf points) battery start target cap)
 result (allot limit states) = caps (map (λ (s : ChargerState). s .cap) (allocate (AtMost limit) (λ k. curveOf (bay .points)) states))
+result (dump n plan) = shown (dumpOf plan n)
 
 infix 68 _gives_
 pub data Worked : Type 0 where
@@ -177,4 +196,7 @@ worked =
     -- request 8: a lead of 62.5 A, at 400 V 25 kW, takes the hour; one of half an ampere is refused by 7, the charger's block 3
     run events 10 (plan (nacsCapped (record { 0 = ratio 125 2 }))) gives ended 3 (charged 0 100 3820 0 (output (seconds 3600) (kwh 25) (kw 25)) (seconds 120) ∷ []) ∷
     run events 10 (plan (nacsCapped (record { 0 = ratio 1 2 }))) gives refused (Broken Field 3) ∷
+    -- request 1: M2 after both arrivals, the charger of block 3 with the car of block 4, that of block 5 queued; M1 once it has ended
+    dump 2 (plan (secondCar 1800 10)) gives shows 2 (5 ∷ []) (3 ∷ 4 ∷ []) ((1900 ∷ 1 ∷ 4 ∷ []) ∷ (2000 ∷ 1 ∷ 5 ∷ []) ∷ (2020 ∷ 2 ∷ 3 ∷ []) ∷ []) ∷
+    dump 10 (plan bay) gives shows 3 [] [] [] ∷
     []

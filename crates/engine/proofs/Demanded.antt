@@ -23,7 +23,7 @@ use Rattle.engine.proofs.discrete.LastCar.{free-by-events}
 use Rattle.engine.proofs.timestep.Opened.{free-by-steps, none-open-at-end}
 use Rattle.engine.proofs.site.Waits.{waited-by-events, waited-by-steps}
 
-is-empty : {B : Type 0} (l : List B) → isEmpty l ≡ true → l ≡ []
+pub is-empty : {B : Type 0} (l : List B) → isEmpty l ≡ true → l ≡ []
 is-empty [] h = refl
 is-empty (x ∷ l) h = let z : _≡_ {A = ℕ} 0 1 = cc in absurd (omega arith)
 

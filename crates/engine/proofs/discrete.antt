@@ -1,6 +1,7 @@
 pub mod Stepped
 pub mod EventLaws
 pub mod Busy
+pub mod InPlan
 pub mod InOrder
 pub mod NoneQueued
 pub mod LastCar

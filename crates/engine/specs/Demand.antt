@@ -123,9 +123,9 @@ pub record Stop : Type 0 where
   pub free : ChargerPlace → Bool
   pub vacant : ChargerPlace → Bool
 
-abbrev pub byEvents : Plan → ℕ → Stop
-byEvents p n =
-    let s = D.run p n in
+-- of a run by events, from the state that it has come to
+abbrev pub stopAt : Plan → D.State → Stop
+stopAt p s =
     record {
       used = s .handled;
       ended = D.ended s;
@@ -135,6 +135,9 @@ byEvents p n =
       free = λ c. freeByEvents (s .site .pending) (lastAt c nobody (s .site .sessions));
       vacant = freeAt p (D.events p) (s .site .places);
     }
+
+abbrev pub byEvents : Plan → ℕ → Stop
+byEvents p n = stopAt p (D.run p n)
 
 abbrev pub bySteps : Plan → ℕ → Stop
 bySteps p n =

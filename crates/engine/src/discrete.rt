@@ -17,7 +17,6 @@ use crate::site::renege;
 use crate::site::row_of;
 use crate::site::turn_away;
 use charger::vehicle::Vehicle;
-use charger::vehicle::no_vehicle;
 use charger::vehicle_list::VehicleList;
 use charger::waiting_queue::WaitingQueue;
 use curve::charge_profile::ChargingOutput;
@@ -30,12 +29,13 @@ ghost use lib.Dec.{eqb};
 ghost use lib.ListN.{getD, take, set};
 ghost use Rattle.curve.specs.F64.{ceiling};
 ghost use Rattle.charger.specs.Lists.{tick, All};
+ghost use Rattle.charger.specs.Vehicle.{vehicleAt};
 ghost use Rattle.charger.specs.Code.Vehicles.{listed};
 ghost use Rattle.engine.specs.Plan.{stayOf};
 ghost use Rattle.engine.specs.Events.{Ordered};
 ghost use Rattle.engine.specs.Discrete.{sessionOf, chargedSession, run};
 ghost use Rattle.engine.specs.Demand.{isArrival};
-ghost use Rattle.engine.specs.Code.Simulation.{pending, planOf, eventState, model, InTime, Sound, effectOf, Effected};
+ghost use Rattle.engine.specs.Code.Simulation.{pending, planOf, eventState, model, InTime, Sound, RunSoFar, effectOf, Effected};
 
 // Who stands at each charger, beside the rest of the site's state: 0 for nobody, else one more than the vehicle's place in
 // the plan. The events handled are those before the queue's head.
@@ -124,7 +124,7 @@ fn session_of(v: usize, c: usize, time: u64, car: Vehicle, charge: ChargingOutpu
     }
 }
 
-// The session of the vehicle `v` that takes the charger `c`.
+// The session of the vehicle `v`, which is this car, that takes the charger `c`.
 fn charge(
     site: Site,
     rows: [[bool; 5]; 32],
@@ -132,24 +132,18 @@ fn charge(
     lens: &[u8],
     time: u64,
     v: usize,
+    car: Vehicle,
     c: usize,
 ) -> Session
-    requires { ⌜ time < 2 ^ 63 ⌝ }
+    requires { ⌜ (time < 2 ^ 63) × (car ≡ vehicleAt (listed (site .vehicles)) v) ⌝ }
     ensures { λ r. ⌜ r ≡ chargedSession (planOf site rows (now (curves .entry)) (now (lens .entry))) time v c ⌝ }
 {
-    let vehicles = site.vehicles;
-    let mut vehicle = no_vehicle();
-    if v < vehicles.len {
-        if v < 64 {
-            vehicle = vehicles.all[v];
-        }
-    }
     let chargers = site.chargers;
     let batteries = site.batteries;
     let charger = charger_of(chargers, site.count, c);
     let row = row_of(rows, site.count, c);
-    let output = charging_output(vehicle, charger, row, batteries, curves, lens);
-    session_of(v, c, time, vehicle, output)
+    let output = charging_output(car, charger, row, batteries, curves, lens);
+    session_of(v, c, time, car, output)
 }
 
 // The effect of an event that gives nobody a charger and frees none.
@@ -259,27 +253,28 @@ fn state_of(events: EventQueue, queue: WaitingQueue, sessions: Sessions, places:
     }
 }
 
-// The run of up to `allowance` events.
-pub fn run(
+// The run goes on from a state that it has reached, by up to `further` events.
+pub fn go_on(
     site: Site,
     rows: [[bool; 5]; 32],
     curves: &[[f64; 2]],
     lens: &[u8],
-    allowance: u64,
+    state: State,
+    further: u64,
 ) -> State
-    requires { ⌜ ((site .vehicles .len ≤ 64) × (site .count ≤ 32)) × All InTime (listed (site .vehicles)) ⌝ }
-    ensures same { λ r. ⌜ model (site .count) r ≡ run (planOf site rows (now (curves .entry)) (now (lens .entry))) allowance ⌝ }
+    requires { ⌜ (((site .vehicles .len ≤ 64) × (site .count ≤ 32)) × All InTime (listed (site .vehicles))) × (Sound (state .simulation) × RunSoFar (planOf site rows (now curves) (now lens)) (site .count) state) ⌝ }
+    ensures same { λ r. ⌜ model (site .count) r ≡ run (planOf site rows (now (curves .entry)) (now (lens .entry))) (state .simulation .events .head + further) ⌝ }
     ensures sound { λ r. ⌜ Sound (r .simulation) ⌝ }
     ensures order { λ r. ⌜ Ordered (pending (r .simulation .events)) ⌝ }
 {
     let vehicles = site.vehicles;
-    let start = Simulation::new(vehicles);
+    let start = state.simulation;
     let mut events = start.events;
     let mut queue = start.queue;
     let mut sessions = start.sessions;
-    let mut places = [0; 32];
+    let mut places = state.places;
     let mut i = 0;
-    while i < allowance {
+    while i < further {
         let head = events.head;
         if events.tail <= head {
             return state_of(events, queue, sessions, places);
@@ -301,7 +296,8 @@ pub fn run(
                 sessions.len = at + 1;
             }
             Action::PlugsIn(v, c) => {
-                let x = charge(site, rows, curves, lens, e.time, v, c);
+                let car = vehicles.all[v];
+                let x = charge(site, rows, curves, lens, e.time, v, car, c);
                 let at = sessions.len;
                 sessions.all[at] = x;
                 sessions.len = at + 1;
@@ -317,4 +313,25 @@ pub fn run(
         }
     }
     state_of(events, queue, sessions, places)
+}
+
+// The run of up to `allowance` events.
+pub fn run(
+    site: Site,
+    rows: [[bool; 5]; 32],
+    curves: &[[f64; 2]],
+    lens: &[u8],
+    allowance: u64,
+) -> State
+    requires { ⌜ ((site .vehicles .len ≤ 64) × (site .count ≤ 32)) × All InTime (listed (site .vehicles)) ⌝ }
+    ensures same { λ r. ⌜ model (site .count) r ≡ run (planOf site rows (now (curves .entry)) (now (lens .entry))) allowance ⌝ }
+    ensures sound { λ r. ⌜ Sound (r .simulation) ⌝ }
+    ensures order { λ r. ⌜ Ordered (pending (r .simulation .events)) ⌝ }
+{
+    let vehicles = site.vehicles;
+    let start = State {
+        simulation: Simulation::new(vehicles),
+        places: [0; 32],
+    };
+    go_on(site, rows, curves, lens, start, allowance)
 }

@@ -14,14 +14,11 @@ use Rattle.files.specs.Book.{sessionCount, outcomeAt, outcomesOf, sessio
 use Rattle.files.specs.Call.{stopOf, bookLeft}
 use Rattle.plan.specs.declared.answer.Totals.{Totals}
 use Rattle.plan.specs.declared.answer.RunAnswer.{RunAnswer}
-use Rattle.plan.specs.declared.answer.RunAnswer.the-variants.{EngineAbove, AllowanceAbove, BookUnder, PlanRefused, Stopped}
+use Rattle.plan.specs.declared.answer.RunAnswer.the-variants.{Refused, Stopped}
 
 -- what is said of a run that was not refused
 abbrev pub OfRun : (Totals → Type 0) → RunAnswer → Type 0
-OfRun P EngineAbove = Unit {0}
-OfRun P AllowanceAbove = Unit {0}
-OfRun P BookUnder = Unit {0}
-OfRun P (PlanRefused x) = Unit {0}
+OfRun P (Refused x) = Unit {0}
 OfRun P (Stopped t) = P t
 
 module _ (plan : List ℕ) (engine n : ℕ) where

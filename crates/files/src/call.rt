@@ -1,98 +1,25 @@
 // The two calls: check a plan, and run it by either engine under an allowance.
-use crate::book::write_book;
 use crate::check::check_plan;
 use crate::check::read_plan;
-use crate::totals::count_up;
-use engine::discrete;
-use engine::session::Sessions;
+use crate::stop::by_engine;
+use crate::stop::write_run;
 use engine::site::Site;
-use engine::timestep;
 use plan::answer::Answer;
+use plan::answer::Refusal;
 use plan::answer::RunAnswer;
 use plan::answer::Totals;
-use plan::answer::flag;
 use plan::plan::check_blocks;
 ghost use mathlib.Core.Path.{_≡_};
 ghost use Prim.Native.Nat.{_≤_};
 ghost use lib.ListN.{length};
-ghost use Rattle.power.specs.Code.Bank.{Rising};
-ghost use Rattle.engine.specs.Code.Simulation.{planOf};
-ghost use Rattle.engine.specs.Demand.{byEvents, bySteps};
 ghost use Rattle.files.specs.Check.{checkPlan, pairAnswer, AllSealed};
 ghost use Rattle.files.specs.Pairs.{failingPair};
 ghost use Rattle.files.specs.Code.Reading.{Loaded, Admitted};
 ghost use Rattle.files.specs.Read.{readPlan};
-ghost use Rattle.files.specs.Code.Running.{Runnable, Shows};
 ghost use Rattle.files.specs.Call.{stopOf, totals, ifFine, bookOf, answerOf, bookAfter};
 ghost use Rattle.files.specs.Book.{written};
 ghost use Rattle.files.specs.Demand.{ReadsBack, UnitsUsed, FreeKnown, NoFreeFits, OneSpot, OneById, AddUp, CountsOfBook, ClosedStay, ExactWaits, Handled, EventsEnd, StepsEnd};
 ghost use Rattle.files.specs.HotDay.{HotDayOfPlan, HotDayOfRun, BookByRating};
-
-// A run at its stop.
-pub struct Ran {
-    pub sessions: Sessions,
-    pub totals: Totals,
-}
-
-fn by_events(
-    site: Site,
-    rows: [[bool; 5]; 32],
-    curves: &[[f64; 2]],
-    lens: &[u8],
-    allowance: u64,
-) -> Ran
-    requires { ⌜ Runnable site ⌝ }
-    ensures { λ r. ⌜ Shows (byEvents (planOf site rows (now (curves .entry)) (now (lens .entry))) allowance) r ⌝ }
-{
-    let state = discrete::run(site, rows, curves, lens, allowance);
-    let simulation = state.simulation;
-    let sessions = simulation.sessions;
-    let used = simulation.events.head as u64;
-    let ended = simulation.events.tail <= simulation.events.head;
-    Ran {
-        sessions: sessions,
-        totals: count_up(simulation, used, ended),
-    }
-}
-
-fn by_steps(
-    site: Site,
-    rows: [[bool; 5]; 32],
-    curves: &[[f64; 2]],
-    lens: &[u8],
-    allowance: u64,
-) -> Ran
-    requires { ⌜ (Runnable site × Rising (now curves) (now lens)) × (allowance ≤ 10000000) ⌝ }
-    ensures { λ r. ⌜ Shows (bySteps (planOf site rows (now (curves .entry)) (now (lens .entry))) allowance) r ⌝ }
-{
-    let mut floats = [[0.0; 9]; 32];
-    let mut bytes = [[0u8; 4]; 32];
-    let run = timestep::run(site, rows, curves, lens, &mut floats, &mut bytes, allowance);
-    let simulation = run.simulation;
-    let sessions = simulation.sessions;
-    Ran {
-        sessions: sessions,
-        totals: count_up(simulation, run.time, run.ended),
-    }
-}
-
-// Engine 0 events or 1 steps.
-fn by_engine(
-    site: Site,
-    rows: [[bool; 5]; 32],
-    curves: &[[f64; 2]],
-    lens: &[u8],
-    engine: u32,
-    allowance: u32,
-) -> Ran
-    requires { ⌜ (Runnable site × Rising (now curves) (now lens)) × (allowance ≤ 10000000) ⌝ }
-    ensures { λ r. ⌜ Shows (stopOf (planOf site rows (now (curves .entry)) (now (lens .entry))) engine allowance) r ⌝ }
-{
-    if engine == 0 {
-        return by_events(site, rows, curves, lens, allowance as u64);
-    }
-    by_steps(site, rows, curves, lens, allowance as u64)
-}
 
 // Runs a plan that was read and is fine, and writes its book.
 fn run_site(
@@ -112,19 +39,7 @@ fn run_site(
 {
     let ran = by_engine(site, rows, curves, lens, engine, allowance);
     let vehicles = site.vehicles;
-    let sessions = ran.sessions;
-    let counts = ran.totals;
-    write_book(
-        book,
-        plan,
-        vehicles,
-        rows,
-        sessions,
-        engine as u8,
-        flag(counts.ended),
-        counts.used,
-    );
-    counts
+    write_run(book, plan, vehicles, rows, ran, engine as u8)
 }
 
 // Tests the pairs of a plan whose blocks are fine, and runs it if none fails.
@@ -144,7 +59,7 @@ fn run_blocks(plan: &[u8], engine: u32, allowance: u32, book: &mut [u8]) -> RunA
         Answer::Fine => {
             RunAnswer::Stopped(run_site(plan, site, rows, &curves, &lens, engine, allowance, book))
         }
-        Answer::Refused(refusal) => RunAnswer::PlanRefused(refusal),
+        Answer::Refused(refusal) => RunAnswer::Refused(refusal),
     }
 }
 
@@ -178,17 +93,17 @@ pub fn run(plan: &[u8], engine: u32, allowance: u32, book: &mut [u8]) -> RunAnsw
     ensures rating { λ r. ⌜ BookByRating (now (plan .entry)) engine (now (book .exit)) r ⌝ }
 {
     if 1 < engine {
-        return RunAnswer::EngineAbove;
+        return RunAnswer::Refused(Refusal::EngineAbove);
     }
     if 10_000_000 < allowance {
-        return RunAnswer::AllowanceAbove;
+        return RunAnswer::Refused(Refusal::AllowanceAbove);
     }
     if book.len() < 7168 {
-        return RunAnswer::BookUnder;
+        return RunAnswer::Refused(Refusal::BookUnder);
     }
     let answer = check_blocks(plan);
     match answer {
         Answer::Fine => run_blocks(plan, engine, allowance, book),
-        Answer::Refused(refusal) => RunAnswer::PlanRefused(refusal),
+        Answer::Refused(refusal) => RunAnswer::Refused(refusal),
     }
 }

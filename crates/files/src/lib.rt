@@ -1,9 +1,10 @@
 // The files and the two calls: the plan read into site data, the pairs that cannot charge, the book, check and run.
 mod book;
-mod book_session;
+pub mod book_session;
 pub mod call;
-mod check;
+pub mod check;
 mod pairs;
 mod read;
-mod session_blocks;
+pub mod session_blocks;
+pub mod stop;
 mod totals;

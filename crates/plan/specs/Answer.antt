@@ -6,11 +6,11 @@ use Rattle.charger.specs.Lists.{tick}
 use Rattle.plan.specs.declared.answer.Rule.{Rule}
 use Rattle.plan.specs.declared.answer.Rule.the-variants.{Length, Check, Header, Field, NoPoint, EqualSoc, UsedId, NoProfile}
 use Rattle.plan.specs.declared.answer.Refusal.{Refusal}
-use Rattle.plan.specs.declared.answer.Refusal.the-variants.{Broken, CannotCharge}
+use Rattle.plan.specs.declared.answer.Refusal.the-variants.{EngineAbove, AllowanceAbove, BookUnder, Broken, CannotCharge, DumpUnder, OtherDump}
 use Rattle.plan.specs.declared.answer.Answer.{Answer}
 use Rattle.plan.specs.declared.answer.Answer.the-variants.{Fine, Refused}
 use Rattle.plan.specs.declared.answer.RunAnswer.{RunAnswer}
-use Rattle.plan.specs.declared.answer.RunAnswer.the-variants.{EngineAbove, AllowanceAbove, BookUnder, PlanRefused, Stopped}
+use Rattle.plan.specs.declared.answer.RunAnswer.the-variants.{Refused as RunRefused, Stopped}
 
 -- ---- the number and places of each refusal
 
@@ -25,16 +25,31 @@ ruleNumber UsedId = 10
 ruleNumber NoProfile = 11
 
 abbrev pub number : Refusal → ℕ
+number EngineAbove = 1
+number AllowanceAbove = 2
+number BookUnder = 3
 number (Broken r k) = ruleNumber r
 number (CannotCharge v c) = 12
+number DumpUnder = 13
+number OtherDump = 14
 
 abbrev pub place : Refusal → ℕ
+place EngineAbove = 0
+place AllowanceAbove = 0
+place BookUnder = 0
 place (Broken r k) = k
 place (CannotCharge v c) = v
+place DumpUnder = 0
+place OtherDump = 0
 
 abbrev pub otherPlace : Refusal → ℕ
+otherPlace EngineAbove = 0
+otherPlace AllowanceAbove = 0
+otherPlace BookUnder = 0
 otherPlace (Broken r k) = 0
 otherPlace (CannotCharge v c) = c
+otherPlace DumpUnder = 0
+otherPlace OtherDump = 0
 
 -- ---- the eleven numbers of each answer: number, places, units used, ended, the six counts
 
@@ -51,9 +66,6 @@ checkNumbers Fine = replicate 11 0
 checkNumbers (Refused x) = refusalNumbers x
 
 abbrev pub numbers : RunAnswer → List ℕ
-numbers EngineAbove = refused 1 0 0
-numbers AllowanceAbove = refused 2 0 0
-numbers BookUnder = refused 3 0 0
-numbers (PlanRefused x) = refusalNumbers x
+numbers (RunRefused x) = refusalNumbers x
 numbers (Stopped t) =
     0 ∷ 0 ∷ 0 ∷ t .used ∷ tick (t .ended) ∷ t .«yet_to_arrive» ∷ t .queued ∷ t .«still_open» ∷ t .charged ∷ t .reneged ∷ t .balked ∷ []

@@ -16,10 +16,16 @@ pub enum Rule {
     NoProfile,
 }
 
-// Why a plan is refused: a rule refuses a block, by its place in the file; or a vehicle's block and a charger's cannot charge.
+// Why a call is refused, in number order: the engine, the allowance, a book that is too short; a rule refuses a block, by its
+// place in the file; a vehicle's block and a charger's cannot charge; a dump that is too short, or not one of the plan.
 pub enum Refusal {
+    EngineAbove,
+    AllowanceAbove,
+    BookUnder,
     Broken(Rule, usize),
     CannotCharge(usize, usize),
+    DumpUnder,
+    OtherDump,
 }
 
 // What a check answers.
@@ -42,10 +48,7 @@ pub struct Totals {
 
 // What a run answers.
 pub enum RunAnswer {
-    EngineAbove,
-    AllowanceAbove,
-    BookUnder,
-    PlanRefused(Refusal),
+    Refused(Refusal),
     Stopped(Totals),
 }
 
@@ -70,8 +73,13 @@ pub fn number(refusal: Refusal) -> u64
     ensures { λ r. ⌜ r ≡ Answer·number refusal ⌝ }
 {
     match refusal {
+        Refusal::EngineAbove => 1,
+        Refusal::AllowanceAbove => 2,
+        Refusal::BookUnder => 3,
         Refusal::Broken(rule, _) => rule_number(rule),
         Refusal::CannotCharge(_, _) => 12,
+        Refusal::DumpUnder => 13,
+        Refusal::OtherDump => 14,
     }
 }
 
@@ -80,8 +88,13 @@ pub fn place(refusal: Refusal) -> usize
     ensures { λ r. ⌜ r ≡ Answer·place refusal ⌝ }
 {
     match refusal {
+        Refusal::EngineAbove => 0,
+        Refusal::AllowanceAbove => 0,
+        Refusal::BookUnder => 0,
         Refusal::Broken(_, k) => k,
         Refusal::CannotCharge(v, _) => v,
+        Refusal::DumpUnder => 0,
+        Refusal::OtherDump => 0,
     }
 }
 
@@ -90,8 +103,13 @@ pub fn other_place(refusal: Refusal) -> usize
     ensures { λ r. ⌜ r ≡ otherPlace refusal ⌝ }
 {
     match refusal {
+        Refusal::EngineAbove => 0,
+        Refusal::AllowanceAbove => 0,
+        Refusal::BookUnder => 0,
         Refusal::Broken(_, _) => 0,
         Refusal::CannotCharge(_, c) => c,
+        Refusal::DumpUnder => 0,
+        Refusal::OtherDump => 0,
     }
 }
 
@@ -153,10 +171,7 @@ pub fn run_numbers(answer: RunAnswer) -> [u64; 11]
     ensures { λ r. ⌜ r ≡ numbers answer ⌝ }
 {
     match answer {
-        RunAnswer::EngineAbove => refused(1, 0, 0),
-        RunAnswer::AllowanceAbove => refused(2, 0, 0),
-        RunAnswer::BookUnder => refused(3, 0, 0),
-        RunAnswer::PlanRefused(refusal) => refusal_numbers(refusal),
+        RunAnswer::Refused(refusal) => refusal_numbers(refusal),
         RunAnswer::Stopped(totals) => stopped(totals),
     }
 }

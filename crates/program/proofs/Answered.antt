@@ -13,9 +13,9 @@ use Rattle.files.specs.Book.{sessionCount, written}
 use Rattle.files.specs.Demand.{ReadsBack}
 use Rattle.plan.specs.declared.answer.Rule.the-variants.{Length, Check, Header, Field, NoPoint, EqualSoc, UsedId, NoProfile}
 use Rattle.plan.specs.declared.answer.Refusal.{Refusal}
-use Rattle.plan.specs.declared.answer.Refusal.the-variants.{Broken, CannotCharge}
+use Rattle.plan.specs.declared.answer.Refusal.the-variants.{EngineAbove, AllowanceAbove, BookUnder, Broken, CannotCharge, DumpUnder, OtherDump}
 use Rattle.plan.specs.declared.answer.RunAnswer.{RunAnswer}
-use Rattle.plan.specs.declared.answer.RunAnswer.the-variants.{EngineAbove, AllowanceAbove, BookUnder, PlanRefused, Stopped}
+use Rattle.plan.specs.declared.answer.RunAnswer.the-variants.{Refused, Stopped}
 use Rattle.files.proofs.ReadBack.{length-book}
 use Rattle.program.specs.Output.{engineOf, allowanceOf, planOf, line, outputOf, output}
 
@@ -30,6 +30,9 @@ shown text out out′ r e l =
 
 -- a refusal's number is not 0
 refused : (x : Refusal) → number x ≡ 0 → ⊥
+refused EngineAbove e = omega arith
+refused AllowanceAbove e = omega arith
+refused BookUnder e = omega arith
 refused (Broken Length k) e = omega arith
 refused (Broken Check k) e = omega arith
 refused (Broken Header k) e = omega arith
@@ -39,26 +42,22 @@ refused (Broken EqualSoc k) e = omega arith
 refused (Broken UsedId k) e = omega arith
 refused (Broken NoProfile k) e = omega arith
 refused (CannotCharge v c) e = omega arith
+refused DumpUnder e = omega arith
+refused OtherDump e = omega arith
 
 module _ (plan : List ℕ) (engine n : ℕ) (out out′ : List ℕ) where
   -- number 0: the book stands in the buffer, and its header tells its length
   pub success : (r : RunAnswer) → out′ ≡ bookAfter plan engine n r out → ReadsBack plan engine n out′ r → getD (numbers r) 0 0 ≡ 0
       → (out′ ≡ written (outputOf plan engine n r) out) × (512 + 512 * ((sessionCount out′ + 4) / 5) ≡ length (outputOf plan engine n r))
   unfolding outputOf bookOf
-  success EngineAbove e b z = absurd (omega arith)
-  success AllowanceAbove e b z = absurd (omega arith)
-  success BookUnder e b z = absurd (omega arith)
-  success (PlanRefused x) e b z = absurd (refused x z)
+  success (Refused x) e b z = absurd (refused x z)
   success (Stopped t) e b z = (e, rw (b .count) (sym (length-book engine _ _ _)))
 
   -- any other: the buffer is as it was, and the line is what is left to write
   pub refusal : (r : RunAnswer) → out′ ≡ bookAfter plan engine n r out → (getD (numbers r) 0 0 ≡ 0 → ⊥)
       → (out′ ≡ out) × (line (numbers r) ≡ outputOf plan engine n r)
   unfolding outputOf
-  refusal EngineAbove e z = (e, refl)
-  refusal AllowanceAbove e z = (e, refl)
-  refusal BookUnder e z = (e, refl)
-  refusal (PlanRefused x) e z = (e, rw (ne-eqb (number x) 0 z))
+  refusal (Refused x) e z = (e, rw (ne-eqb (number x) 0 z))
   refusal (Stopped t) e z = absurd (z refl)
 
 -- the parts of the input, and the answer for a buffer of 7,168 bytes, give the output

@@ -5,8 +5,9 @@ use oracle::bay::brief;
 use oracle::book::LEAST_BOOK;
 use oracle::draft::{Car, Draft, charger, profile};
 use oracle::draw::Draw;
+use oracle::dump::LEAST_DUMP;
 use oracle::generate;
-use oracle::sides::{OTHER, other_check, other_run};
+use oracle::sides::{OTHER, other_check, other_dump, other_resume, other_run};
 use std::hint::black_box;
 
 const REPETITIONS: usize = 15;
@@ -16,10 +17,19 @@ const MEASUREMENT: f64 = 10e6;
 struct Work {
     name: String,
     plan: Vec<u8>,
-    /// Engine and allowance of a run; a check has none.
-    run: Option<(u32, u32)>,
+    call: Call,
     /// What the time is divided by: rounds, or one call.
     per: Per,
+}
+
+enum Call {
+    Check,
+    /// By an engine under an allowance.
+    Run(u32, u32),
+    /// By events under an allowance.
+    Dump(u32),
+    /// From the dump after so many events to the end.
+    Continue(u32),
 }
 
 enum Per {
@@ -27,8 +37,18 @@ enum Per {
     Call,
 }
 
-type Check = fn(&[u8]) -> Numbers;
-type Run = fn(&[u8], u32, u32, &mut [u8]) -> Numbers;
+struct Side {
+    check: fn(&[u8]) -> Numbers,
+    run: fn(&[u8], u32, u32, &mut [u8]) -> Numbers,
+    dump: fn(&[u8], u32, u32, &mut [u8], &mut [u8]) -> Numbers,
+    resume: fn(&[u8], &[u8], u32, &mut [u8]) -> Numbers,
+}
+
+const SIDES: [Side; 2] = [
+    Side { check: oracle::check, run: oracle::run, dump: oracle::dump, resume: oracle::resume },
+    Side { check: other_check, run: other_run, dump: other_dump, resume: other_resume },
+];
+const MOST: u32 = 10_000_000;
 
 fn main() {
     let works = named_works();
@@ -66,20 +86,28 @@ fn shown(work: &Work, nanoseconds: f64) -> String {
 
 /// Nanoseconds of each repetition, the two sides in alternating order.
 fn measure(work: &Work) -> [Vec<f64>; 2] {
-    let sides: [(Check, Run); 2] = [(oracle::check, oracle::run), (other_check, other_run)];
     let mut book = vec![0; LEAST_BOOK];
-    let mut call = |(check, run): (Check, Run)| match work.run {
-        Some((engine, allowance)) => run(black_box(&work.plan), engine, allowance, black_box(&mut book)),
-        None => check(black_box(&work.plan)),
+    let mut dump = vec![0; LEAST_DUMP];
+    if let Call::Continue(handled) = work.call {
+        oracle::dump(&work.plan, 0, handled, &mut book, &mut dump);
+    }
+    let mut call = |side: usize| {
+        let (side, plan, book) = (&SIDES[side], black_box(&work.plan), black_box(&mut book));
+        match work.call {
+            Call::Check => (side.check)(plan),
+            Call::Run(engine, allowance) => (side.run)(plan, engine, allowance, book),
+            Call::Dump(allowance) => (side.dump)(plan, 0, allowance, book, black_box(&mut dump)),
+            Call::Continue(_) => (side.resume)(plan, black_box(&dump), MOST, book),
+        }
     };
-    let answers = sides.map(&mut call);
+    let answers = [0, 1].map(&mut call);
     assert_eq!(answers[0], answers[1], "{}", work.name);
     assert_eq!(answers[0][0], 0, "{} is refused", work.name);
     let units = match work.per {
         Per::Round => answers[0][3] as f64,
         Per::Call => 1.0,
     };
-    let calls = sides.map(|side| {
+    let calls = [0, 1].map(|side| {
         let started = thread_time();
         call(side);
         (MEASUREMENT / (thread_time() - started)).clamp(1.0, 100_000.0) as u32
@@ -90,7 +118,7 @@ fn measure(work: &Work) -> [Vec<f64>; 2] {
             let side = (repetition + turn) % 2;
             let started = thread_time();
             for _ in 0..calls[side] {
-                black_box(call(sides[side]));
+                black_box(call(side));
             }
             times[side].push((thread_time() - started) / f64::from(calls[side]) / units);
         }
@@ -141,20 +169,23 @@ fn works() -> Vec<Work> {
     works.push(Work {
         name: "events: 64 vehicles, 32 chargers".into(),
         plan: busy_site(32),
-        run: Some((0, 10_000_000)),
+        call: Call::Run(0, MOST),
         per: Per::Call,
     });
     works.push(Work {
         name: "events: 64 vehicles, 2 chargers".into(),
         plan: busy_site(2),
-        run: Some((0, 10_000_000)),
+        call: Call::Run(0, MOST),
         per: Per::Call,
     });
-    works.push(Work { name: "check of a largest plan".into(), plan: largest(), run: None, per: Per::Call });
+    for (name, call) in [("dump after 80 events", Call::Dump(80)), ("continue after 80 events", Call::Continue(80))] {
+        works.push(Work { name: format!("{name}: 64 vehicles, 2 chargers"), plan: busy_site(2), call, per: Per::Call });
+    }
+    works.push(Work { name: "check of a largest plan".into(), plan: largest(), call: Call::Check, per: Per::Call });
     works.push(Work {
         name: "check of one vehicle and one charger".into(),
         plan: steady(1, 1, false, false),
-        run: None,
+        call: Call::Check,
         per: Per::Call,
     });
     works
@@ -185,7 +216,7 @@ fn rounds(chargers: u32, points: u32, high: bool, limited: bool) -> Work {
         if high { "high" } else { "low" },
         if limited { ", limit binds" } else { "" }
     );
-    Work { name, plan: steady(chargers, points, high, limited), run: Some((1, 100_000)), per: Per::Round }
+    Work { name, plan: steady(chargers, points, high, limited), call: Call::Run(1, 100_000), per: Per::Round }
 }
 
 /// Cars that are parked from the second round on, under a limit that would bind if they counted.
@@ -198,7 +229,7 @@ fn parked(chargers: u32) -> Work {
         draft.vehicles.push(Car { id: k, idle: 200_000.0, ..brief(0, 0, 0) }.block());
     }
     let name = format!("steps: {chargers} parked");
-    Work { name, plan: draft.bytes(), run: Some((1, 100_000)), per: Per::Round }
+    Work { name, plan: draft.bytes(), call: Call::Run(1, 100_000), per: Per::Round }
 }
 
 /// Four chargers and twenty cars over a day, most of them in two rush hours.
@@ -218,7 +249,7 @@ fn day() -> Work {
     Work {
         name: "steps: a day of 20 cars with long empty hours".into(),
         plan: draft.bytes(),
-        run: Some((1, 10_000_000)),
+        call: Call::Run(1, MOST),
         per: Per::Call,
     }
 }
@@ -236,7 +267,7 @@ fn sparse_day() -> Work {
     Work {
         name: "steps: a sparse day of three cars".into(),
         plan: draft.bytes(),
-        run: Some((1, 10_000_000)),
+        call: Call::Run(1, MOST),
         per: Per::Call,
     }
 }
@@ -257,7 +288,7 @@ fn far_apart() -> Work {
     Work {
         name: "steps: two cars 1,000,000 s apart".into(),
         plan: draft.bytes(),
-        run: Some((1, 10_000_000)),
+        call: Call::Run(1, MOST),
         per: Per::Call,
     }
 }

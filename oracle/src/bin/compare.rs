@@ -4,6 +4,7 @@
 //! `--program` compares a program by standard input and output instead.
 //! `--shape` takes every case of the one shape that it names.
 //! `--count` goes on past differences and says how many cases differ.
+//! `--dumps` compares request 1's calls, dump and continue, at every cut of each case's run by events.
 //! `--sweep` damages a small plan at every byte in place of drawn cases.
 //! `--trace` names each case on standard error before it runs, for a side that may crash or hang.
 use oracle::arguments::Words;
@@ -17,8 +18,7 @@ use std::path::PathBuf;
 use std::process::ExitCode;
 use std::time::Instant;
 
-const USAGE: &str =
-    "compare [--cases N] [--seed S] [--from INDEX] [--shape NAME] [--program PATH] [--sweep] [--count] [--trace]";
+const USAGE: &str = "compare [--cases N] [--seed S] [--from INDEX] [--shape NAME] [--dumps | --program PATH] [--sweep] [--count] [--trace]";
 
 struct Options {
     cases: u64,
@@ -26,6 +26,7 @@ struct Options {
     from: u64,
     shape: Option<String>,
     program: Option<PathBuf>,
+    dumps: bool,
     sweep: bool,
     count: bool,
     trace: bool,
@@ -38,6 +39,7 @@ fn options() -> Options {
         from: 0,
         shape: None,
         program: None,
+        dumps: false,
         sweep: false,
         count: false,
         trace: false,
@@ -50,11 +52,15 @@ fn options() -> Options {
             "--from" => options.from = words.number("INDEX"),
             "--shape" => options.shape = Some(shape(&mut words)),
             "--program" => options.program = Some(words.needed("PATH").into()),
+            "--dumps" => options.dumps = true,
             "--sweep" => options.sweep = true,
             "--count" => options.count = true,
             "--trace" => options.trace = true,
             _ => words.wrong(format!("{word} is unknown")),
         }
+    }
+    if options.dumps && options.program.is_some() {
+        words.wrong("the program has no dumps");
     }
     options
 }
@@ -72,6 +78,7 @@ fn main() -> ExitCode {
     let started = Instant::now();
     let side = match &options.program {
         Some(path) => Side::Program(path.clone()),
+        None if options.dumps => Side::Dumps(Default::default()),
         None => Side::Linked,
     };
     let name = options.program.as_ref().map_or(OTHER.to_string(), |path| path.display().to_string());
@@ -88,9 +95,10 @@ fn main() -> ExitCode {
         true => Box::new(sweep(options.seed)),
         false => {
             let end = options.from.saturating_add(options.cases);
-            let (seed, shape) = (options.seed, options.shape.clone());
+            let (seed, shape, dumps) = (options.seed, options.shape.clone(), options.dumps);
             Box::new((options.from..end).map(move |index| match &shape {
                 Some(name) => generate::shaped(name, &mut Draw::new(seed, index)),
+                None if dumps => generate::for_dumps(seed, index),
                 None => generate::case(seed, index),
             }))
         }
@@ -109,23 +117,36 @@ fn main() -> ExitCode {
         }
         *answers.entry(oracle::check(&case.plan)[0]).or_insert(0) += 1;
     }
-    let answers: Vec<String> = answers.iter().map(|(number, count)| format!("{number}: {count}")).collect();
     println!(
         "{} of {compared} cases alike in {:.1} s; answers of check by number: {}",
         compared - different,
         started.elapsed().as_secs_f64(),
-        answers.join(", ")
+        by_number(&answers)
     );
+    if let Side::Dumps(tally) = &side {
+        let tally = tally.borrow();
+        println!("of dump: {}; of continue: {}", by_number(&tally.dumps), by_number(&tally.continued));
+    }
     if different == 0 { ExitCode::SUCCESS } else { ExitCode::FAILURE }
 }
 
+fn by_number(answers: &BTreeMap<u64, u64>) -> String {
+    let answers: Vec<String> = answers.iter().map(|(number, count)| format!("{number}: {count}")).collect();
+    answers.join(", ")
+}
+
 fn report(side: &Side, index: u64, case: Case, what: &str) {
-    println!("DIFFERENCE in case {index}: {what}\n{}", words::describe(&case));
+    // Dumps are of the run by events, whatever the case's own engine.
+    let described = |case: &Case| match side {
+        Side::Dumps(_) => words::describe(&Case { engine: 0, allowance: 10_000_000, ..case.clone() }),
+        _ => words::describe(case),
+    };
+    println!("DIFFERENCE in case {index}: {what}\n{}", described(&case));
     // The plan's own answer is kept, so that a refused plan shrinks to a refused one.
     let number = oracle::check(&case.plan)[0];
     let small = shrink(case, |case| oracle::check(&case.plan)[0] == number && side.difference(case).is_some());
     let what = side.difference(&small).unwrap();
-    println!("SHRUNK: {what}\n{}", words::describe(&small));
+    println!("SHRUNK: {what}\n{}", described(&small));
     let input = program::input(small.engine.min(255) as u8, small.allowance, &small.plan);
     println!("the program's input, [n] being n zero bytes:\n{}", words::hex(&input));
 }

@@ -6,6 +6,7 @@ use oracle::draw::Draw;
 use oracle::generate::{self, Case, SHAPES};
 use oracle::plan::MOST_BLOCKS;
 use oracle::program;
+use oracle::recording::{Reader, record_changes, write};
 use std::path::Path;
 
 /// The replaying program's buffer of input, all zero at first and never cleared.
@@ -54,13 +55,6 @@ fn main() {
     assert!(decode(&recorded) == inputs, "the record reads back");
     write(Path::new(&folder), &recorded, &outputs).unwrap_or_else(|error| stop(format!("{folder}: {error}")));
     println!("{} cases, {} bytes in, {} bytes out", inputs.len(), recorded.len(), outputs.len());
-}
-
-/// Writes the record to its folder, which is made where it is not there.
-fn write(folder: &Path, recorded: &[u8], outputs: &[u8]) -> std::io::Result<()> {
-    std::fs::create_dir_all(folder)?;
-    std::fs::write(folder.join("stdin"), recorded)?;
-    std::fs::write(folder.join("stdout"), outputs)
 }
 
 fn inputs(seed: u64) -> Vec<Vec<u8>> {
@@ -126,62 +120,21 @@ fn encode(inputs: &[Vec<u8>]) -> Vec<u8> {
     let mut record = (inputs.len() as u32).to_le_bytes().to_vec();
     let mut buffer = vec![0; BUFFER];
     for input in inputs {
-        let changes = changes(&buffer, input);
         record.extend((input.len() as u32).to_le_bytes());
-        record.extend((changes.len() as u16).to_le_bytes());
-        for (at, bytes) in changes {
-            record.extend((at as u16).to_le_bytes());
-            record.push(bytes.len() as u8);
-            record.extend(bytes);
-        }
-        buffer[..input.len()].copy_from_slice(input);
+        record_changes(&mut record, &mut buffer, input);
     }
     record
 }
 
-/// Runs of bytes, each at most 255 long, that turn the buffer's front into the input.
-fn changes<'a>(buffer: &[u8], input: &'a [u8]) -> Vec<(usize, &'a [u8])> {
-    let mut changes = Vec::new();
-    let mut at = 0;
-    while at < input.len() {
-        if input[at] == buffer[at] {
-            at += 1;
-            continue;
-        }
-        // A run goes on over up to three equal bytes, which cost no more than a new run.
-        let (mut end, mut last) = (at, at);
-        while end < input.len() && end - last <= 3 && end - at < 255 {
-            if input[end] != buffer[end] {
-                last = end;
-            }
-            end += 1;
-        }
-        changes.push((at, &input[at..=last]));
-        at = last + 1;
-    }
-    changes
-}
-
 /// Reads a record as the replaying program does.
 fn decode(record: &[u8]) -> Vec<Vec<u8>> {
-    let mut rest = record;
-    let mut take = |count: usize| {
-        let (taken, left) = rest.split_at(count);
-        rest = left;
-        taken
-    };
-    let number = |bytes: &[u8]| bytes.iter().rev().fold(0, |sum, byte| sum * 256 + usize::from(*byte));
+    let mut reader = Reader(record);
     let mut buffer = vec![0; BUFFER];
-    let cases = number(take(4));
-    let mut inputs = Vec::new();
-    for _ in 0..cases {
-        let len = number(take(4));
-        for _ in 0..number(take(2)) {
-            let at = number(take(2));
-            let count = number(take(1));
-            buffer[at..at + count].copy_from_slice(take(count));
-        }
-        inputs.push(buffer[..len].to_vec());
-    }
-    inputs
+    (0..reader.number(4))
+        .map(|_| {
+            let len = reader.number(4);
+            reader.change(&mut buffer);
+            buffer[..len].to_vec()
+        })
+        .collect()
 }

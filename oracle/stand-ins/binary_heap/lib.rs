@@ -66,6 +66,13 @@ impl<T: InTurn> BinaryHeap<T> {
     pub fn iter(&self) -> impl Iterator<Item = &T> {
         self.0.iter().map(|entry| &entry.0)
     }
+
+    /// All items in the order in which they would pop.
+    pub fn in_turn(&self) -> Vec<&T> {
+        let mut items: Vec<&T> = self.iter().collect();
+        items.sort_by_key(|item| item.turn());
+        items
+    }
 }
 
 #[cfg(test)]
@@ -99,8 +106,9 @@ mod tests {
                 let (time, kind, place) = order[(first + 3 * k) % order.len()];
                 heap.push(Event(time, kind, place));
             }
+            let listed: Vec<_> = heap.in_turn().iter().map(|event| event.turn()).collect();
             let popped: Vec<_> = std::iter::from_fn(|| heap.pop()).map(|event| event.turn()).collect();
-            assert_eq!(popped, order);
+            assert_eq!((listed, popped), (order.to_vec(), order.to_vec()));
         }
     }
 }

@@ -29,6 +29,12 @@ taken (car v) = true
 abbrev pub takenAt : List Occupant → ℕ → Bool
 takenAt l c = taken (getD l c (car 0))
 
+-- nobody stands at a charger that is there
+pub taken-past : (l : List Occupant) (c : ℕ) → tick (takenAt l c) ≡ 0 → c < length l
+taken-past [] c h = absurd (omega (arith, h))
+taken-past (o ∷ l) zero h = omega arith
+taken-past (o ∷ l) (suc c) h = omega (arith, taken-past l c h)
+
 -- somebody stands at a charger as often as unplugs are pending there
 abbrev pub Flagged : State → Type 0
 Flagged s = (c : ℕ) → c < length (s .site .places) → count (unplugs c) (s .site .pending) ≡ tick (takenAt (s .site .places) c)

@@ -131,6 +131,12 @@ module _ (p : Plan) where
   pub used : (n : ℕ) → Used n (run p n)
   used n = used-after n n (start p) (zero-add n)
 
+  -- a run's state is told by the events that it has handled
+  pub run-handled : (n : ℕ) → run p (run p n .handled) ≡ run p n
+  run-handled =
+      every-run (λ s. run p (s .handled) ≡ s) refl
+      (λ n h. ⊎-elim (λ d. rw (step-ended (run p n) d) h) (λ d. ap (run p) d ∙ run-step (run p n .handled) ∙ ap (step p) h) (used-step (stepped p (run p n))))
+
   -- ---- two events for each vehicle, and one more for each that charged
 
   events-stepped : (s : State) {t : State} → Stepped p s t

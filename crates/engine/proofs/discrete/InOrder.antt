@@ -2,11 +2,10 @@
 use mathlib.Core.Path.{_≡_, refl, ap, _∙_}
 use mathlib.Core.Bool.{Bool, true, false, _&&_}
 use mathlib.Core.List.{List, [], _∷_}
-use Prim.Native.Nat.{ℕ, zero, suc, _+_, _≤_, _<_}
+use Prim.Native.Nat.{ℕ, _+_, _≤_}
 use native.Mathlib.Omega.{arith}
 use borrow.Author.Tests.{eqb-true, eq-eqb}
 use lib.Dec.{eqb}
-use lib.ListN.{length}
 use Rattle.charger.specs.Lists.{tick, count, All, none}
 use Rattle.charger.proofs.Lists.{all-map, none-counted}
 use Rattle.engine.specs.declared.events.Event.{Event}
@@ -15,14 +14,14 @@ use Rattle.engine.specs.declared.events.EventType.the-variants.{Arrival,
 use Rattle.engine.specs.Plan.{Plan}
 use Rattle.engine.specs.Events.{unplug, rank, placeBy, push, Ordered, empty}
 use Rattle.engine.specs.SiteState.{startCharging}
-use Rattle.engine.specs.Discrete.{Occupant, State, run}
+use Rattle.engine.specs.Discrete.{State, run}
 use Rattle.engine.specs.Demand.{isUnplug, unplugs}
 use Rattle.engine.proofs.events.Before.{Apart}
 use Rattle.engine.proofs.events.Order.{ordered-push, ordered-tail, ordered-generate}
 use Rattle.engine.proofs.site.Laws.{count-push}
 use Rattle.engine.proofs.discrete.Stepped.{Stepped, stepped, ended, charges, balks, waits, frees, passes, reneges, misses}
 use Rattle.engine.proofs.discrete.EventLaws.{every-run}
-use Rattle.engine.proofs.discrete.Busy.{takenAt, Flagged, flagged, available-flag, popped, no-unplug}
+use Rattle.engine.proofs.discrete.Busy.{takenAt, taken-past, Flagged, flagged, available-flag, popped, no-unplug}
 
 -- the unplug of a charger that has none pending is apart from the others
 unplug-apart : (t v c : ℕ) (es : List Event) → count (unplugs c) es ≡ 0 → All (Apart (unplug t v c)) es
@@ -32,12 +31,6 @@ unplug-apart t v c es h = all-map (λ e k. go e (e .kind) k) (none-counted (unpl
     go e Unplug h r = h
     go e Arrival h r = absurd (omega arith)
     go e Renege h r = absurd (omega arith)
-
--- nobody stands at a charger that is there
-taken-past : (l : List Occupant) (c : ℕ) → tick (takenAt l c) ≡ 0 → c < length l
-taken-past [] c h = absurd (omega (arith, h))
-taken-past (o ∷ l) zero h = omega arith
-taken-past (o ∷ l) (suc c) h = omega (arith, taken-past l c h)
 
 -- in order, and at most one unplug at each charger
 record InOrder (l : List Event) : Type 0 where

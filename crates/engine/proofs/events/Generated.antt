@@ -1,7 +1,7 @@
 -- The events of a plan, as a loop over its vehicles pushes them.
 use mathlib.Core.Path.{_≡_, sym, _∙_}
-use mathlib.Core.List.{List}
-use Prim.Native.Nat.{ℕ, _+_, _*_, _<_}
+use mathlib.Core.List.{List, [], _∷_}
+use Prim.Native.Nat.{ℕ, suc, _+_, _*_, _≤_, _<_}
 use native.Mathlib.Numerals.{add-one}
 use native.Mathlib.Omega.{arith}
 use lib.ListN.{length, getD, take, length-take}
@@ -17,7 +17,7 @@ use Rattle.charger.proofs.waiting_queue.Part.{getD-any, part-next}
 use Rattle.engine.specs.declared.events.Event.{Event}
 use Rattle.engine.specs.Code.Simulation.{eventsOf, InTime}
 use Rattle.engine.specs.Events.{arrival, renege, push, generate}
-use Rattle.engine.proofs.events.Order.{Upto, upto-next}
+use Rattle.engine.proofs.events.Order.{all-push, Upto, upto-next}
 
 module _ (all : List Vehicle) (n v : ℕ) (d : Vehicle) (h : v < n) (k : v < length all) where
   -- the vehicle that the array has at v is the plan's
@@ -46,3 +46,11 @@ pub generate-rows : (all : List Vehicle) (n v : ℕ) (x : Vehicle) (rows first b
 generate-rows all n v x rows first both h k e a r =
     let two : 2 * (v + 1) ≡ 2 * v + 1 + 1 = omega arith in
     (λ s. rw (two, r, a, add-one v) (upto-next v (x .arrival) (x .arrival + x .wait) s), rw (two, r, a) (sym (generate-next all n v x _ h k e)))
+
+-- ---- arrivals and reneges of vehicles below n
+
+module _ {P : Event → Type 0} (n : ℕ) (arrivals : (t v : ℕ) → v < n → P (arrival t v)) (reneges : (t v : ℕ) → v < n → P (renege t v)) where
+  pub all-generate : (v : ℕ) (xs : List Vehicle) (l : List Event) → v + length xs ≤ n → All P l → All P (generate v xs l)
+  all-generate v [] l h k = k
+  all-generate v (x ∷ xs) l h k =
+      all-generate (suc v) xs _ (omega arith) (all-push _ (reneges (x .arrival + x .wait) v (omega arith)) (all-push _ (arrivals (x .arrival) v (omega arith)) k))

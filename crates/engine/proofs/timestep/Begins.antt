@@ -8,12 +8,9 @@ use native.Mathlib.Omega.{arith}
 use lib.Ieee.{Float}
 use lib.ListN.{length, take, replicate}
 use lib.Seq.{length-take-le}
-use Rattle.charger.specs.declared.vehicle.Vehicle.{Vehicle}
-use Rattle.charger.specs.Lists.{All, none}
-use Rattle.engine.specs.declared.events.Event.{Event}
+use Rattle.charger.specs.Lists.{none}
 use Rattle.engine.specs.declared.site.Simulation.{Simulation}
 use Rattle.engine.specs.Plan.{Plan}
-use Rattle.engine.specs.Events.{arrival, renege, generate}
 use Rattle.power.specs.ChargerState.{empty}
 use Rattle.engine.specs.Timestep.{steps}
 use Rattle.power.specs.Code.Bank.{stateAt, bank, Stored}
@@ -22,7 +19,7 @@ use Rattle.engine.specs.Code.Steps.{RoomFor}
 use Rattle.engine.proofs.site.Moves as M
 use Rattle.engine.proofs.site.Laws as L
 use Rattle.engine.proofs.timestep.RunMoves.{lawful}
-use Rattle.engine.proofs.events.Order.{all-push}
+use Rattle.engine.proofs.events.Generated.{all-generate}
 
 -- ---- a cleared bank
 
@@ -41,14 +38,6 @@ replicate-snoc (suc n) x = rw (replicate-snoc n x)
 pub cleared-all : (n : ℕ) (F : List (List Float)) (B : List (List ℕ)) → ((j : ℕ) → j < n → stateAt F B j ≡ empty) → bank n F B ≡ replicate n empty
 cleared-all zero F B h = refl
 cleared-all (suc n) F B h = rw (cleared-all n F B (λ j l. h j (omega arith)), h n (omega arith)) (replicate-snoc n empty)
-
--- ---- the events at the start: arrivals and reneges of vehicles below n
-
-module _ {P : Event → Type 0} (n : ℕ) (arrivals : (t v : ℕ) → v < n → P (arrival t v)) (reneges : (t v : ℕ) → v < n → P (renege t v)) where
-  all-generate : (v : ℕ) (xs : List Vehicle) (l : List Event) → v + length xs ≤ n → All P l → All P (generate v xs l)
-  all-generate v [] l h k = k
-  all-generate v (x ∷ xs) l h k =
-      all-generate (suc v) xs _ (omega arith) (all-push _ (reneges (x .arrival + x .wait) v (omega arith)) (all-push _ (arrivals (x .arrival) v (omega arith)) k))
 
 -- ---- there is room for everybody
 

@@ -146,6 +146,10 @@ occupants l = map occupantOf l
 abbrev pub model : ℕ → State → Discrete.State
 model count s = record { site = siteState (s .simulation) (occupants (take count (s .places))); handled = s .simulation .events .head }
 
+-- a state is the plan's run by the events that it has handled
+abbrev pub RunSoFar : Plan → ℕ → State → Type 0
+RunSoFar p count s = model count s ≡ Discrete.run p (s .simulation .events .head)
+
 abbrev pub eventState : EventQueue → WaitingQueue → Sessions → List ℕ → State
 eventState e q s places = record { simulation = record { events = e; queue = q; sessions = s }; places = places }
 

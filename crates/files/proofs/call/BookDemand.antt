@@ -46,6 +46,9 @@ pub vehicle-count : (plan : List ℕ) → length (vehiclesOf plan) ≡ vehicleCo
 unfolding vehiclesOf
 vehicle-count plan = length-each (vehicleIn plan) 0 (vehicleCount plan)
 
+pub few-vehicles : (plan : List ℕ) → checkBlocks plan ≡ Fine → length (vehiclesOf plan) ≤ 64
+few-vehicles plan fine = omega (arith, vehicle-count plan, counted plan fine .vehicles)
+
 -- ---- the outcome bytes are the sessions' outcomes
 
 abbrev outcome : BookSession → ℕ

@@ -1,8 +1,8 @@
 -- Demands 2 and 3 and request 13 hold of what every run answers, and of the book that it leaves.
 use mathlib.Core.Path.{_≡_, refl, sym, ap, _∙_, subst}
 use mathlib.Core.Bool.{Bool, true, false, cond}
-use mathlib.Core.List.{List}
-use Prim.Native.Nat.{ℕ, zero, suc, _+_, _-_, _≤_}
+use mathlib.Core.List.{List, []}
+use Prim.Native.Nat.{ℕ, zero, suc, _+_, _-_, _≤_, _<_}
 use native.Mathlib.Omega.{arith}
 use borrow.Author.Tests.{ltb-false, le-ltb}
 use lib.Dec.{ltb}
@@ -13,7 +13,7 @@ use Rattle.engine.specs.Demand.{Demand, EventDemand, Kept}
 use Rattle.engine.proofs.Demanded.{by-events, by-steps, kept-by-events, kept-by-steps, event-demand, step-demand}
 use Rattle.files.specs.Read.{readPlan}
 use Rattle.files.specs.Check.{checkPlan}
-use Rattle.files.specs.Book.{written}
+use Rattle.files.specs.Book.{written, sessionCount, outcomeAt, sessionAt}
 use Rattle.files.specs.Call.{stopOf, totals, ifFine, answerOf, bookOf, bookAfter}
 use Rattle.files.specs.Demand.{OfRun, ReadsBack, UnitsUsed, FreeKnown, NoFreeFits, OneSpot, OneById, AddUp, CountsOfBook, ClosedStay, ExactWaits, Handled, EventsEnd, StepsEnd}
 use Rattle.files.specs.HotDay.{HotDayOfRun, BookByRating}
@@ -22,64 +22,66 @@ use Rattle.plan.specs.declared.answer.Answer.{Answer}
 use Rattle.plan.specs.declared.answer.Answer.the-variants.{Fine, Refused}
 use Rattle.plan.specs.declared.answer.Totals.{Totals}
 use Rattle.plan.specs.declared.answer.RunAnswer.{RunAnswer}
-use Rattle.plan.specs.declared.answer.RunAnswer.the-variants.{EngineAbove, AllowanceAbove, BookUnder, PlanRefused, Stopped}
+use Rattle.plan.specs.declared.answer.Refusal.{Refusal}
+use Rattle.plan.specs.declared.answer.Refusal.the-variants.{EngineAbove, AllowanceAbove, BookUnder}
+use Rattle.plan.specs.declared.answer.RunAnswer.the-variants.{Refused as RunRefused, Stopped}
 use Rattle.files.proofs.check.PairLaws.{plan-fine}
 use Rattle.files.proofs.call.HotDay.{hot-day-of-plan, book-by-rating}
 use Rattle.files.proofs.call.BookDemand.{vehicle-count, outcomes-of-run, one-by-id, few-sessions, closed-stays}
 
 -- ---- what is known of a run that was not refused
 
-record Runs (plan : List ℕ) (engine n room : ℕ) (t : Totals) : Type 0 where
-  fine : checkPlan plan ≡ Fine
-  either : engine ≤ 1
-  allowed : n ≤ 10000000
-  fits : 7168 ≤ room
-  counts : t ≡ totals (stopOf (readPlan plan) engine n)
+pub record Runs (plan : List ℕ) (engine n : ℕ) (t : Totals) : Type 0 where
+  pub fine : checkPlan plan ≡ Fine
+  pub either : engine ≤ 1
+  pub counts : t ≡ totals (stopOf (readPlan plan) engine n)
 
-of-map : {P Q : Totals → Type 0} → ((t : Totals) → P t → Q t) → (r : RunAnswer) → OfRun P r → OfRun Q r
-of-map f EngineAbove h = tt
-of-map f AllowanceAbove h = tt
-of-map f BookUnder h = tt
-of-map f (PlanRefused x) h = tt
+pub of-map : {P Q : Totals → Type 0} → ((t : Totals) → P t → Q t) → (r : RunAnswer) → OfRun P r → OfRun Q r
+of-map f (RunRefused x) h = tt
 of-map f (Stopped t) h = f t h
 
-of-both : {P Q R : Totals → Type 0} → ((t : Totals) → P t → Q t → R t) → (r : RunAnswer) → OfRun P r → OfRun Q r → OfRun R r
-of-both f EngineAbove h k = tt
-of-both f AllowanceAbove h k = tt
-of-both f BookUnder h k = tt
-of-both f (PlanRefused x) h k = tt
+pub of-both : {P Q R : Totals → Type 0} → ((t : Totals) → P t → Q t → R t) → (r : RunAnswer) → OfRun P r → OfRun Q r → OfRun R r
+of-both f (RunRefused x) h k = tt
 of-both f (Stopped t) h k = f t h k
 
-module _ (plan : List ℕ) (engine n room : ℕ) where
+module _ (plan : List ℕ) (engine n : ℕ) where
   abbrev run : Totals
   run = totals (stopOf (readPlan plan) engine n)
 
-  known : OfRun (Runs plan engine n room) (answerOf plan engine n room)
-  unfolding answerOf
-  known = by-engine (ltb 1 engine) refl
+  -- a plan that is fine is run
+  pub if-fine : engine ≤ 1 → OfRun (Runs plan engine n) (ifFine (checkPlan plan) (Stopped run))
+  if-fine h = by-plan (checkPlan plan) refl
     where
-      by-plan : (a : Answer) → checkPlan plan ≡ a → engine ≤ 1 → n ≤ 10000000 → 7168 ≤ room → OfRun (Runs plan engine n room) (ifFine a (Stopped run))
-      by-plan Fine e a b c = record { fine = e; either = a; allowed = b; fits = c; counts = refl }
-      by-plan (Refused x) e a b c = tt
+      by-plan : (a : Answer) → checkPlan plan ≡ a → OfRun (Runs plan engine n) (ifFine a (Stopped run))
+      by-plan Fine e = record { fine = e; either = h; counts = refl }
+      by-plan (Refused x) e = tt
 
-      by-room : (c : Bool) → ltb room 7168 ≡ c → engine ≤ 1 → n ≤ 10000000 → OfRun (Runs plan engine n room) (cond c BookUnder (ifFine (checkPlan plan) (Stopped run)))
-      by-room true e a b = tt
-      by-room false e a b = by-plan (checkPlan plan) refl a b (ltb-false room 7168 e)
+  known : (room : ℕ) → OfRun (Runs plan engine n) (answerOf plan engine n room)
+  unfolding answerOf
+  known room = by-engine (ltb 1 engine) refl
+    where
+      by-room : (c : Bool) → engine ≤ 1 → OfRun (Runs plan engine n) (cond c (RunRefused BookUnder) (ifFine (checkPlan plan) (Stopped run)))
+      by-room true h = tt
+      by-room false h = if-fine h
 
-      by-allowance : (c : Bool) → ltb 10000000 n ≡ c → engine ≤ 1
-          → OfRun (Runs plan engine n room) (cond c AllowanceAbove (cond (ltb room 7168) BookUnder (ifFine (checkPlan plan) (Stopped run))))
-      by-allowance true e a = tt
-      by-allowance false e a = by-room (ltb room 7168) refl a (ltb-false 10000000 n e)
+      by-allowance : (c : Bool) → engine ≤ 1
+          → OfRun (Runs plan engine n) (cond c (RunRefused AllowanceAbove) (cond (ltb room 7168) (RunRefused BookUnder) (ifFine (checkPlan plan) (Stopped run))))
+      by-allowance true h = tt
+      by-allowance false h = by-room (ltb room 7168) h
 
       by-engine : (c : Bool) → ltb 1 engine ≡ c
-          → OfRun (Runs plan engine n room) (cond c EngineAbove (cond (ltb 10000000 n) AllowanceAbove (cond (ltb room 7168) BookUnder (ifFine (checkPlan plan) (Stopped run)))))
+          → OfRun (Runs plan engine n) (cond c (RunRefused EngineAbove) (cond (ltb 10000000 n) (RunRefused AllowanceAbove) (cond (ltb room 7168) (RunRefused BookUnder) (ifFine (checkPlan plan) (Stopped run)))))
       by-engine true e = tt
-      by-engine false e = by-allowance (ltb 10000000 n) refl (ltb-false 1 engine e)
+      by-engine false e = by-allowance (ltb 10000000 n) (ltb-false 1 engine e)
+
+  -- what is known of what `run` answers
+  pub known-run : (room : ℕ) (r : RunAnswer) → r ≡ answerOf plan engine n room → OfRun (Runs plan engine n) r
+  known-run room r e = subst (OfRun (Runs plan engine n)) (sym e) (known room)
 
   -- and where nothing refuses it, a run is not refused
-  answered : checkPlan plan ≡ Fine → engine ≤ 1 → n ≤ 10000000 → 7168 ≤ room → answerOf plan engine n room ≡ Stopped run
+  pub answered : (room : ℕ) → checkPlan plan ≡ Fine → engine ≤ 1 → n ≤ 10000000 → 7168 ≤ room → answerOf plan engine n room ≡ Stopped run
   unfolding answerOf
-  answered fine e a r = rw (le-ltb 1 engine e, le-ltb 10000000 n a, le-ltb room 7168 r, fine)
+  answered room fine e a r = rw (le-ltb 1 engine e, le-ltb 10000000 n a, le-ltb room 7168 r, fine)
 
 -- ---- both engines
 
@@ -117,11 +119,18 @@ Promises plan engine n book r =
     × (HotDayOfRun plan r
     × BookByRating plan engine book r)))))))))))))
 
-module _ (plan : List ℕ) (engine n room : ℕ) (r : RunAnswer) (e : r ≡ answerOf plan engine n room) where
-  runs : OfRun (Runs plan engine n room) r
-  runs = subst (OfRun (Runs plan engine n room)) (sym e) (known plan engine n room)
+-- nothing is promised of a refused call
+pub unpromised : (x : Refusal) → Promises [] 0 0 [] (RunRefused x)
+unpromised x = (tt, (tt, (tt, (tt, (tt, (tt, (tt, (tt, (tt, (tt, (tt, (tt, (tt, (tt, tt))))))))))))))
 
-  holds : (P : Totals → Type 0) → P (run plan engine n room) → OfRun P r
+-- the bytes of the book
+pub book-bytes : (plan : List ℕ) (engine n : ℕ) (old book : List ℕ) (r : RunAnswer) → book ≡ bookAfter plan engine n r old
+    → OfRun (λ t. book ≡ written (bookOf plan engine (stopOf (readPlan plan) engine n)) old) r
+book-bytes plan engine n old book (RunRefused x) h = tt
+book-bytes plan engine n old book (Stopped t) h = h
+
+module _ (plan : List ℕ) (engine n : ℕ) (r : RunAnswer) (runs : OfRun (Runs plan engine n) r) where
+  holds : (P : Totals → Type 0) → P (run plan engine n) → OfRun P r
   holds P h = of-map (λ t k. subst P (sym (k .counts)) h) r runs
 
   abbrev all : Demand (readPlan plan) n (stopOf (readPlan plan) engine n)
@@ -179,31 +188,32 @@ module _ (plan : List ℕ) (engine n room : ℕ) (r : RunAnswer) (e : r ≡ answ
         (ap (λ (u : Totals). u .«still_open») (k .counts) ∙ same 0, ap (λ (u : Totals). u .charged) (k .counts) ∙ same 1, ap (λ (u : Totals). u .reneged) (k .counts) ∙ same 2, ap (λ (u : Totals). u .balked) (k .counts) ∙ same 3))
         r runs back
 
-    -- the bytes of the book
-    book-bytes : (r : RunAnswer) → book ≡ bookAfter plan engine n r old → OfRun (λ t. book ≡ written (bookOf plan engine (stopOf (readPlan plan) engine n)) old) r
-    book-bytes EngineAbove h = tt
-    book-bytes AllowanceAbove h = tt
-    book-bytes BookUnder h = tt
-    book-bytes (PlanRefused x) h = tt
-    book-bytes (Stopped t) h = h
-
     -- what is known of the run, and its bytes
-    runs-written : OfRun (λ t. Runs plan engine n room t × (book ≡ written (bookOf plan engine (stopOf (readPlan plan) engine n)) old)) r
-    runs-written = of-both (λ t k h. (k, h)) r runs (book-bytes r b)
+    runs-written : OfRun (λ t. Runs plan engine n t × (book ≡ written (bookOf plan engine (stopOf (readPlan plan) engine n)) old)) r
+    runs-written = of-both (λ t k h. (k, h)) r runs (book-bytes plan engine n old book r b)
 
-    closed-stay : ClosedStay plan engine n book r
+    -- a closed session stands at the same offset in the book of any longer run of the plan
+    pub later-stays : OfRun (λ t. (m : ℕ) → n ≤ m → (buffer : List ℕ) (k : ℕ) → k < sessionCount book → 1 ≤ outcomeAt book k
+        → let second = written (bookOf plan engine (stopOf (readPlan plan) engine m)) buffer in
+        (k < sessionCount second) × (sessionAt second k ≡ sessionAt book k)) r
     unfolding bookOf
-    closed-stay =
-        of-both {P = λ t. Runs plan engine n room t × (book ≡ written (bookOf plan engine (stopOf (readPlan plan) engine n)) old)}
-        (λ t k h m less most buffer room′ i inside low high.
+    later-stays =
+        of-both {P = λ t. Runs plan engine n t × (book ≡ written (bookOf plan engine (stopOf (readPlan plan) engine n)) old)}
+        (λ t k h m less buffer i inside low.
         let now = stopOf (readPlan plan) engine n in
         let later = stopOf (readPlan plan) engine m in
         let blocks = plan-fine plan (k .0 .fine) .0 in
-        let stays =
-        closed-stays plan engine (tick (now .ended)) (now .used) (tick (later .ended)) (later .used) (now .sessions) (later .sessions) old buffer (kept (readPlan plan) engine n m less) (few-sessions plan engine m blocks)
-        (rw (k .1) at (h .count)) (rw (k .1) at (h .sessions)) i (rw (k .1) at inside) (rw (k .1) at low) in
-        rw (answered plan engine m (length buffer) (k .0 .fine) (k .0 .either) most room′, k .1) stays)
+        rw (k .1)
+        (closed-stays plan engine (tick (now .ended)) (now .used) (tick (later .ended)) (later .used) (now .sessions) (later .sessions) old buffer (kept (readPlan plan) engine n m less) (few-sessions plan engine m blocks)
+        (rw (k .1) at (h .count)) (rw (k .1) at (h .sessions)) i (rw (k .1) at inside) (rw (k .1) at low)))
         r runs-written back
+
+    closed-stay : ClosedStay plan engine n book r
+    closed-stay =
+        of-both
+        (λ t k stays m less most buffer room i inside low high.
+        rw (answered plan engine m (length buffer) (k .fine) (k .either) most room) (stays m less buffer i inside low))
+        r runs later-stays
 
     -- by events its charged sessions say what charging takes
     book-rated : BookByRating plan engine book r

@@ -6,7 +6,7 @@ use Rattle.charger.specs.Code.Vehicles.{listed}
 use Rattle.engine.specs.Code.Simulation.{booked, InTime}
 use Rattle.engine.specs.declared.site.Site.{Site}
 use Rattle.engine.specs.Demand.{Stop}
-use Rattle.files.specs.declared.call.Ran.{Ran}
+use Rattle.files.specs.declared.stop.Ran.{Ran}
 use Rattle.files.specs.Call.{totals}
 
 -- what the engines ask of a site, as the plan's checks give it

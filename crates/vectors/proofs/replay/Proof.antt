@@ -1,13 +1,14 @@
 -- `vectors::replay` is safe and ends. Assumes nothing.
 use mathlib.Core.Path.{_≡_}
 use Prim.Native.Nat.{_≤_, _-_}
-use borrow.Author.Needs.{needs}
 use lib.ListN.{length}
+use borrow.Author.Needs.{needs}
 use Rattle.vectors.proofs.replay.Statement.{statement}
 use Rattle.vectors.proofs.replay.Tie as tie
 
 abbrev Inv-loop : tie.InvT-loop
-Inv-loop recorded buffer₀ inputs at₀ k₀ buffer at k = (length buffer ≡ 65536) × (k ≤ inputs)
+Inv-loop recorded buffer₀ inputs at₀ k₀ buffer at k =
+    (length buffer ≡ 65536) × (k ≤ inputs)
 
 abbrev μ-loop : tie.MeasureT-loop
 μ-loop recorded buffer₀ inputs at₀ k₀ buffer at k = inputs - k
@@ -21,17 +22,11 @@ loop-holds c = search needs
 u16-at-requires-2 : tie.Need-u16-at-requires-2 Inv-loop μ-loop
 u16-at-requires-2 c κs = search needs
 
-wrapping-add-usize-requires : tie.Need-wrapping-add-usize-requires Inv-loop μ-loop
-wrapping-add-usize-requires c κs = search needs
-
-u16-at-requires-3 : tie.Need-u16-at-requires-3 Inv-loop μ-loop
-u16-at-requires-3 c κs = search needs
-
 slice-aggregate-change : tie.Need-slice-aggregate-change Inv-loop μ-loop
 slice-aggregate-change c = search needs
 
-wrapping-add-usize-requires-2 : tie.Need-wrapping-add-usize-requires-2 Inv-loop μ-loop
-wrapping-add-usize-requires-2 c κs = search needs
+wrapping-add-usize-requires : tie.Need-wrapping-add-usize-requires Inv-loop μ-loop
+wrapping-add-usize-requires c κs = search needs
 
 change-requires : tie.Need-change-requires Inv-loop μ-loop
 change-requires c κs = search needs
@@ -63,10 +58,8 @@ replay-spec =
     u16-at-requires
     loop-holds
     u16-at-requires-2
-    wrapping-add-usize-requires
-    u16-at-requires-3
     slice-aggregate-change
-    wrapping-add-usize-requires-2
+    wrapping-add-usize-requires
     change-requires
     slice-aggregate-answer-first
     answer-first-requires

@@ -9,8 +9,9 @@ use Rattle.files.specs.Pairs.{failingPair}
 use Rattle.files.specs.Read.{readPlan}
 use Rattle.files.specs.Call.{stopOf, totals, ifFine, answerOf}
 use Rattle.plan.specs.declared.answer.Answer.{Answer}
-use Rattle.plan.specs.declared.answer.RunAnswer.the-variants.{EngineAbove, AllowanceAbove, BookUnder, PlanRefused, Stopped}
-use Rattle.files.proofs.call.Demanded.{promised}
+use Rattle.plan.specs.declared.answer.Refusal.the-variants.{EngineAbove, AllowanceAbove, BookUnder}
+use Rattle.plan.specs.declared.answer.RunAnswer.the-variants.{Stopped}
+use Rattle.files.proofs.call.Demanded.{known-run, unpromised, promised}
 use Rattle.files.proofs.call.RunLaws.{engine-above, allowance-above, book-under, by-plan}
 use Rattle.files.proofs.call.run.Statement.{statement}
 use Rattle.files.proofs.call.run.Tie as tie
@@ -23,19 +24,14 @@ planned : (c : tie.Else3) (a : Answer) → let x = c .before .before .before .be
 planned c = by-plan _ _ _ _ (c .before .before .if1 .left) (c .before .if2 .left) (c .if3 .left)
 
 returns : tie.Need-returns
-returns c =
-    let e = engine-above _ _ _ _ (c .if1 .taken) in
-    (e, (refl, promised _ _ _ _ EngineAbove e (c .before .before .before .args .book .now) _ refl tt))
+returns c = (engine-above _ _ _ _ (c .if1 .taken), (refl, unpromised EngineAbove))
 
 returns-2 : tie.Need-returns-2
-returns-2 c =
-    let e = allowance-above _ _ _ _ (c .before .if1 .left) (c .if2 .taken) in
-    (e, (refl, promised _ _ _ _ AllowanceAbove e (c .before .before .before .before .args .book .now) _ refl tt))
+returns-2 c = (allowance-above _ _ _ _ (c .before .if1 .left) (c .if2 .taken), (refl, unpromised AllowanceAbove))
 
 returns-3 : tie.Need-returns-3
 returns-3 c =
-    let e = book-under _ _ _ _ (c .before .before .if1 .left) (c .before .if2 .left) (c .if3 .taken) in
-    (e, (refl, promised _ _ _ _ BookUnder e (c .before .before .before .before .before .args .book .now) _ refl tt))
+    (book-under _ _ _ _ (c .before .before .if1 .left) (c .before .if2 .left) (c .if3 .taken), (refl, unpromised BookUnder))
 
 check-blocks-requires : tie.Need-check-blocks-requires
 check-blocks-requires c κs = search needs
@@ -63,13 +59,12 @@ returns-4 c =
     let r = at-run .run-blocks .result in
     let answer : r ≡ answerOf (now (x .plan)) (x .engine) (x .allowance) (length (now (x .book))) =
     at-run .run-blocks .ensures .0 ∙ sym (planned (at-blocks .before) _ (sym (at-blocks .check-blocks .ensures) ∙ at-run .before .before .enum-told .given .1))
-    in (answer, (at-run .run-blocks .ensures .1 .0, promised _ _ _ _ r answer _ _ (at-run .run-blocks .ensures .1 .0) (at-run .run-blocks .ensures .1 .1)))
+    in (answer, (at-run .run-blocks .ensures .1 .0, promised _ _ _ r (known-run _ _ _ _ r answer) _ _ (at-run .run-blocks .ensures .1 .0) (at-run .run-blocks .ensures .1 .1)))
 
 returns-5 : tie.Need-returns-5
 returns-5 c =
     let at-blocks = c .before .before .before in
-    let e = sym (planned (at-blocks .before) _ (sym (at-blocks .check-blocks .ensures) ∙ c .before .answer .given .1)) in
-    (e, (refl, promised _ _ _ _ (PlanRefused _) e (at-blocks .before .before .before .before .before .before .args .book .now) _ refl tt))
+    (sym (planned (at-blocks .before) _ (sym (at-blocks .check-blocks .ensures) ∙ c .before .answer .given .1)), (refl, unpromised EngineAbove))
 
 pub run-spec : {M : Type 1} → statement M
 run-spec =

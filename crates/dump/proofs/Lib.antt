@@ -1,0 +1,2 @@
+-- Laws of the refinement, stated once.
+pub mod Laid
