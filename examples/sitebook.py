@@ -2,18 +2,23 @@
 """Plans from text, books as text, tables and pictures, and dumps in words.
 
 The program target/bin/site reads what `input` writes, and writes what `show` and the others read: a book or a refusal.
+`totals` has each book read by the program target/bin/totals.
 `dump` reads what the call site_dump writes.
 FILE is standard input where it is left out or is -.
-Exit status: 0 done; 1 a file cannot be read, is damaged, or is a refusal; 2 wrong usage.
+Exit status: 0 done; 1 a file cannot be read, is damaged, is refused, or is a refusal; 2 wrong usage.
 """
 import argparse
 import os
 import struct
+import subprocess
 import sys
+from pathlib import Path
 
-from sitefiles import book, dump, plan, refusal, tables, text
+from sitefiles import book, dump, plan, refusal, tables, text, totals
 from sitefiles.blocks import Damaged
 from sitefiles.picture import picture
+
+READER = Path(__file__).resolve().parent.parent / "target" / "bin" / "totals"
 
 
 class Failed(Exception):
@@ -84,6 +89,32 @@ def read_book(name, of_plan=None):
     return output
 
 
+def read_totals(name, reader):
+    """What a book comes to by the program that reads it, and the book if it can be shown."""
+    data = file_bytes(name)
+    line = written_by(reader, data)
+    try:
+        answer = totals.read(line)
+    except Damaged as damage:
+        raise Failed(f"{reader}: {damage}") from None
+    if isinstance(answer, refusal.Refusal):
+        raise Failed(f"{spoken(name)}: " + "\n".join(refusal.in_words(answer)))
+    try:
+        return tables.Named(spoken(name), answer, book.read(data))
+    except Damaged as damage:
+        return tables.Named(spoken(name), answer, fault=str(damage))
+
+
+def written_by(program, data):
+    """What a program writes when it is given these bytes."""
+    try:
+        return subprocess.run([program], input=data, stdout=subprocess.PIPE).stdout
+    except FileNotFoundError:
+        raise Failed(f"{program}: there is no such program; rt check totals builds it") from None
+    except OSError as error:
+        raise Failed(f"{program}: {error.strerror}") from None
+
+
 def refusal_lines(output, of_plan):
     try:
         return refusal.in_words(output, of_plan)
@@ -130,7 +161,7 @@ def write_csv(options):
 
 
 def write_totals(options):
-    print("\n".join(tables.totals([tables.Named(name, read_book(name)) for name in options.files])))
+    print("\n".join(tables.totals([read_totals(name, options.reader) for name in options.files])))
 
 
 def draw(options):
@@ -185,6 +216,7 @@ def parser():
     add_files(command("dump", show_dump, "show a dump in words; without its plan, vehicles and chargers by their blocks"))
 
     summed = command("totals", write_totals, "sum up books")
+    summed.add_argument("--reader", metavar="PROGRAM", default=READER, help="the program that reads a book; if left out, target/bin/totals")
     summed.add_argument("files", metavar="FILE", nargs="+")
     return whole
 

@@ -1,19 +1,26 @@
-"""The bytes shown in docs/FORMATS.md are those of the plan that it names, and of the book and the dump that are written for it."""
+"""The bytes shown in docs/FORMATS.md are those of the plan that it names, of the book and the dump that are written for it, and the numbers
+those of the book."""
 import re
+import struct
 import subprocess
 import tempfile
 import unittest
 from pathlib import Path
 
-from sitefiles import blocks, book, dump, text
+from sitefiles import blocks, book, dump, text, totals
 from sitefiles.dump import Event, Place
+from sitefiles.totals import Totals
 
 HERE = Path(__file__).parent
 PAGE = (HERE.parent / "docs" / "FORMATS.md").read_text()
 PROGRAM = HERE.parent / "target" / "bin" / "site"
+READER = HERE.parent / "target" / "bin" / "totals"
 DUMPER = HERE.parent / "target" / "examples" / "dump"
+BOOK_READER = HERE.parent / "target" / "examples" / "read_book"
 BLOCK = re.compile(r"    Block (\d+): ")
 BYTES = re.compile(r" +(\d+)  ((?:[0-9a-f]{2} )+) ")
+NUMBER = re.compile(r"^ +(\d+)  0x([0-9a-f]+) ", re.MULTILINE)
+TOTALS = re.compile(r"^    (0(?: \d+){6}\n)", re.MULTILINE)
 
 
 def shown_files():
@@ -47,6 +54,34 @@ class Page(unittest.TestCase):
     def test_the_book_is_what_the_program_writes(self):
         done = subprocess.run([PROGRAM], input=b"\0\x64\0\0\0" + self.plan, capture_output=True)
         self.assertEqual(done.stdout, self.book)
+
+    def test_the_numbers_are_those_of_the_book(self):
+        count, engine, ended, used = struct.unpack_from("<HBBQ", self.book, 4)
+        self.assertIn(f"the book above has the header {count}, {engine}, {ended}, {used} (", PAGE)
+        numbers = list(struct.unpack_from("<IIIBBxx10Q", self.book, blocks.BLOCK))
+        numbers.insert(5, 0)
+        self.assertEqual([(int(place), int(number, 16)) for place, number in NUMBER.findall(PAGE)], list(enumerate(numbers)))
+
+    def test_the_totals_are_those_of_the_book(self):
+        [line] = TOTALS.findall(PAGE)
+        self.assertEqual(totals.read(line.encode()), Totals((0, 1, 0, 0), 25.0, 0))
+
+    @unittest.skipUnless(READER.exists(), "the program is not built: rt check totals")
+    def test_the_totals_are_what_the_program_writes(self):
+        done = subprocess.run([READER], input=self.book, capture_output=True)
+        self.assertEqual([done.stdout.decode()], TOTALS.findall(PAGE))
+
+    @unittest.skipUnless(BOOK_READER.exists(), "the program over site_read_book is not built: bash examples/link")
+    def test_the_book_is_read_by_the_call(self):
+        with tempfile.TemporaryDirectory() as folder:
+            of_book = Path(folder) / "bay.book"
+            of_book.write_bytes(self.book)
+            whole = subprocess.run([BOOK_READER, of_book], capture_output=True)
+            of_book.write_bytes(self.book + self.book)
+            longer = subprocess.run([BOOK_READER, of_book], capture_output=True)
+        totals_of_the_book = "0 open, 1 charged, 0 reneged, 0 balked, 25.000 kWh, longest wait 0 s"
+        self.assertEqual(whole.stdout.decode().splitlines(), ["vehicle 3: 25.000 kWh", totals_of_the_book])
+        self.assertEqual((longer.returncode, longer.stdout), (1, b"refused by 15\n"))
 
     def test_the_dump_is_whole(self):
         read = dump.read(self.dump, text.read_plan("bay.txt", (HERE / "bay.txt").read_bytes()))

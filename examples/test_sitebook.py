@@ -10,7 +10,7 @@ from pathlib import Path
 from unittest import mock
 
 import sitebook
-from made_books import CHARGED, EACH, OPEN, RENEGED, book_bytes
+from made_books import CHARGED, OPEN, book_bytes
 from made_dumps import PLAN, WAITING, dump_bytes
 from sitefiles import book, dump
 from sitefiles.tables import exact
@@ -113,6 +113,7 @@ class Plans(Commands):
             ["input", "steps", "1_000", "day.plan"],
             ["show", "--plan"],
             ["totals"],
+            ["totals", "--reader", "totals"],
             ["dump", "--plan"],
             ["dump", "a", "b"],
         ]:
@@ -169,21 +170,26 @@ class Books(Commands):
         self.assertRegex(lines[1], r"  block 7 of .*day.txt, vehicle 7001, line \d+: vehicle 7001 profile 1 ")
         self.assertRegex(lines[2], r"  block 4 of .*day.txt, charger 101, line \d+: charger 101 power 75 kW ")
 
-    def test_refusals_of_dumps_in_words(self):
-        for line, saying in [(b"13 0 0\n", "the buffer for the dump is shorter than 16,384 bytes"), (b"14 0 0\n", "the dump is not that of this plan")]:
+    def test_refusals_of_dumps_and_books_in_words(self):
+        for line, saying in [
+            (b"13 0 0\n", "the buffer for the dump is shorter than 16,384 bytes"),
+            (b"14 0 0\n", "the dump is not that of this plan"),
+            (b"15 0 0\n", "the book's length is 0, not a multiple of 512 bytes or above 14 blocks, or a block's check is wrong"),
+            (b"16 0 0\n", "the block count for the session count is against the book's rules"),
+        ]:
             status, out, said = self.run_tool("show", "--plan", HERE / "day.txt", stdin=line)
             self.assertEqual((status, said, out.count(b"\n")), (1, "", 1))
             self.assertIn(saying, out.decode())
 
-    def test_damage_is_refused_by_every_command(self):
+    def test_damage_is_refused_by_every_command_that_reads_by_itself(self):
         torn = self.file("torn.book", RECORDED_BOOK[:-1])
-        for words in [["show", torn], ["csv", torn], ["totals", torn], ["picture", torn]]:
+        for words in [["show", torn], ["csv", torn], ["picture", torn]]:
             self.assertIn(f"{torn}: the file has 1535 bytes, which is no multiple of 512", self.fails(*words))
 
     def test_what_is_no_book(self):
         self.assertIn("standard input: it is empty", self.fails("show"))
         self.assertIn("neither a book", self.fails("show", stdin=b"hello\n"))
-        for command in ["csv", "totals", "picture"]:
+        for command in ["csv", "picture"]:
             self.assertIn("refused by 5: ", self.fails(command, self.file("refusal", b"5 2 0\n")))
 
     def test_csv_has_every_field_in_full(self):
@@ -198,26 +204,6 @@ class Books(Commands):
                     self.assertEqual(float(written), value)
         self.assertEqual(rows[0]["energy_kwh"], "30.000790290734237")
         self.assertEqual((rows[6]["connector"], rows[3]["outcome"], rows[3]["charger"]), ("CHAdeMO", "balked", ""))
-
-    def test_totals(self):
-        first = self.file("first.book", book_bytes(EACH))
-        second = self.file("second.book", book_bytes([CHARGED | {"charger": 0, "energy_kwh": 0.1}, RENEGED | {"wait": 900}], engine=0))
-        self.assertEqual(
-            self.succeeds("totals", first, second).decode().split("\n"),
-            [
-                "2 books (1 by events, 1 by steps), 6 sessions: 1 open, 2 charged, 2 reneged, 1 balked",
-                "energy of the charged sessions: 25.100 kWh",
-                f"longest wait: 900 s, vehicle 9 (reneged) in {second}",
-                "charger  sessions     kWh",
-                "      0         1   0.100",
-                "      3         2  25.000",
-                "",
-            ],
-        )
-
-    def test_totals_of_a_run_that_has_not_ended(self):
-        path = self.file("cut.book", book_bytes([OPEN], ended=0))
-        self.assertIn(f"warning: {path}: the run has not ended", self.succeeds("totals", path).decode())
 
     def test_picture(self):
         path = self.file("day.book", RECORDED_BOOK)

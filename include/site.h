@@ -1,4 +1,4 @@
-/* The joined site engine for C and C++: check a plan, run it, dump a run and continue it.
+/* The joined site engine for C and C++: check a plan, run it, dump a run and continue it, read a book back.
  *
  * `rt staticlib calls` proves the functions and writes target/staticlib/libcalls.a, for x86-64 Linux. It needs nothing
  * but memcpy and memset, so no further library is named:
@@ -8,12 +8,12 @@
  * docs/FORMATS.md describes the plan, the book and the dump byte by byte, and the refusals.
  *
  * What holds of every call:
- * - Every plan and every dump gets an answer, also one that is damaged or none at all. Nothing needs to be tested before a
- *   call.
+ * - Every plan, every dump and every book gets an answer, also one that is damaged or none at all. Nothing needs to be
+ *   tested before a call.
  * - A call is a function of its arguments alone. It allocates nothing, keeps no pointer and has no state, so calls may run
  *   on several threads at once, each with its own buffers to write and its own `numbers`; what is only read may be shared.
- * - No pointer may be null, also where its length is 0. The buffers of one call may not overlap. `numbers` is aligned as
- *   uint64_t; `plan`, `book` and `dump` may begin anywhere.
+ * - No pointer may be null, also where its length is 0. The buffers of one call may not overlap. `numbers`, `header`
+ *   and `sessions` are aligned as uint64_t; `plan`, `book` and `dump` may begin anywhere.
  * - A refused call writes `numbers` and nothing else.
  * - Each call has its SITE_.._STACK, the most bytes of stack that it takes; examples/c/stack.c measures it against them. Give
  *   a thread that calls them 512 KiB or more: the usual 8 MiB is plenty, the 128 KiB of a thread under musl are too few.
@@ -30,16 +30,22 @@
 extern "C" {
 #endif
 
-/* Lengths in bytes: a longer plan is refused by 4, a shorter buffer for the book by 3, one for the dump by 13. */
+/* Lengths in bytes: a longer plan is refused by 4, a longer book to read by 15, a shorter buffer for the book by 3, one for the
+ * dump by 13. */
 #define SITE_PLAN_MOST 57856
+#define SITE_BOOK_MOST 7168
 #define SITE_BOOK_LEAST 7168
 #define SITE_DUMP_LEAST 16384
+
+/* A book that counts more sessions is refused by 16. */
+#define SITE_SESSIONS_MOST 64
 
 /* The most stack that a call takes, in bytes. */
 #define SITE_CHECK_STACK 40960
 #define SITE_RUN_STACK 212992
 #define SITE_DUMP_STACK 114688
 #define SITE_CONTINUE_STACK 131072
+#define SITE_READ_BOOK_STACK 4096
 
 /* A larger allowance, also of further events, is refused by 2. */
 #define SITE_ALLOWANCE_MOST 10000000
@@ -52,7 +58,7 @@ enum site_engine {
 
 /* Where the eleven numbers of an answer stand. */
 enum site_number {
-    SITE_NUMBER,         /* 0: fine; 1 to 14: refused, and all numbers after the two places are 0 */
+    SITE_NUMBER,         /* 0: fine; 1 to 16: refused, and all numbers after the two places are 0 */
     SITE_PLACE,          /* the block that a refusal names, the first being 1; 0 is none */
     SITE_OTHER_PLACE,    /* for 12 the charger's block beside the vehicle's */
     SITE_USED,           /* units used: events handled, or rounds of one second */
@@ -64,6 +70,45 @@ enum site_number {
     SITE_RENEGED,        /* gave up waiting */
     SITE_BALKED,         /* drove on */
     SITE_NUMBERS         /* how many there are: 11 */
+};
+
+/* Where the four numbers of a book's header stand. */
+enum site_header_number {
+    SITE_HEADER_COUNT,   /* how many sessions */
+    SITE_HEADER_ENGINE,  /* SITE_EVENTS or SITE_STEPS */
+    SITE_HEADER_ENDED,   /* 1: the run has ended; 0: its allowance was used up */
+    SITE_HEADER_USED,    /* units used */
+    SITE_HEADER_NUMBERS  /* how many there are: 4 */
+};
+
+/* Where the sixteen numbers of a session stand. One that the outcome has not is 0. The last six are the bits of a double. */
+enum site_session_number {
+    SITE_SESSION_VEHICLE,          /* id */
+    SITE_SESSION_PROFILE,          /* id */
+    SITE_SESSION_CHARGER,          /* id */
+    SITE_SESSION_CONNECTOR,        /* 1 CCS1, 2 CCS2, 3 CHAdeMO, 4 GB/T, 5 NACS */
+    SITE_SESSION_OUTCOME,          /* one of enum site_outcome */
+    SITE_SESSION_FLEET,            /* 0: a book names no fleet */
+    SITE_SESSION_ARRIVAL,          /* s */
+    SITE_SESSION_PLUGIN,           /* s */
+    SITE_SESSION_UNPLUG,           /* s */
+    SITE_SESSION_WAIT,             /* s */
+    SITE_SESSION_CHARGE_DURATION,  /* s */
+    SITE_SESSION_IDLE,             /* s */
+    SITE_SESSION_PEAK,             /* kW */
+    SITE_SESSION_ENERGY,           /* kWh */
+    SITE_SESSION_SOC_START,        /* state of charge */
+    SITE_SESSION_SOC_END,          /* state of charge */
+    SITE_SESSION_NUMBERS           /* how many there are: 16 */
+};
+
+/* What became of a session's vehicle. */
+enum site_outcome {
+    SITE_OUTCOME_OPEN,     /* 0: plugged in when the run stopped */
+    SITE_OUTCOME_CHARGED,  /* 1 */
+    SITE_OUTCOME_RENEGED,  /* 2: gave up waiting */
+    SITE_OUTCOME_BALKED,   /* 3: drove on */
+    SITE_OUTCOMES          /* how many there are: 4 */
 };
 
 /* Checks a plan without running it.
@@ -115,6 +160,18 @@ void site_dump(const uint8_t *plan, size_t plan_length, uint32_t engine, uint32_
  */
 void site_continue(const uint8_t *plan, size_t plan_length, const uint8_t *dump, size_t dump_length, uint32_t further, uint8_t *book,
                    size_t book_length, uint64_t numbers[SITE_NUMBERS]);
+
+/* Reads a book back. It accepts just the books that can be written for some list of up to SITE_SESSIONS_MOST sessions, and gives
+ * these bit for bit. A field may hold any bits where no rule says otherwise, so a float may be a NaN.
+ *
+ * book, book_length    the book's blocks, and nothing behind them; read only
+ * header               its four numbers
+ * sessions             sixteen numbers for each session, in the book's order; those of session k, the first being 0, begin at
+ *                      SITE_SESSION_NUMBERS * k. All 1,024 are written: those behind the last session are 0
+ * numbers              all eleven are written: refusals 15 and 16, tested in this order, or zeros
+ */
+void site_read_book(const uint8_t *book, size_t book_length, uint64_t header[SITE_HEADER_NUMBERS],
+                    uint64_t sessions[SITE_SESSIONS_MOST * SITE_SESSION_NUMBERS], uint64_t numbers[SITE_NUMBERS]);
 
 #ifdef __cplusplus
 }

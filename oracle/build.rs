@@ -1,13 +1,16 @@
 //! Links the product where SITE_ARCHIVE names its static library (a relative path starts at the repository), and copies the
-//! calls of request 1 for the slipped side.
+//! oracle's own calls for the slipped side.
 use std::path::{Path, PathBuf};
 use std::{env, fs};
 
+#[path = "slipped/book_slips.rs"]
+mod book_slips;
 #[path = "original/change.rs"]
 mod change;
 #[path = "slipped/dump_slips.rs"]
 mod dump_slips;
 
+use book_slips::{BOOK_SLIPS, READ_BOOK};
 use change::changed;
 use dump_slips::{DUMP_CALLS, DUMP_SLIPS};
 
@@ -18,7 +21,7 @@ fn main() {
     let slip = env::var("SLIP").unwrap_or_default();
     println!("cargo::rustc-env=SLIP={slip}");
     let here = PathBuf::from(env::var("CARGO_MANIFEST_DIR").unwrap());
-    copy_dump_calls(&here, &slip);
+    copy_calls(&here, &slip);
     let Some(archive) = env::var("SITE_ARCHIVE").ok().filter(|archive| !archive.is_empty()) else {
         return;
     };
@@ -38,16 +41,22 @@ fn main() {
     println!("cargo::rustc-cfg=product");
 }
 
-/// Copies the calls of request 1, with the slip where it is one of them, and declares them for src/slipped.rs.
-fn copy_dump_calls(here: &Path, slip: &str) {
-    let source = here.join("src").join(DUMP_CALLS);
-    println!("cargo::rerun-if-changed={}", source.display());
-    let mut text = fs::read_to_string(&source).unwrap();
-    if let Some((_, change)) = DUMP_SLIPS.iter().find(|(known, _)| *known == slip) {
-        text = changed(&text, change);
-    }
+/// Copies the oracle's own calls, with the slip where it is one of theirs, and declares them for src/slipped.rs.
+fn copy_calls(here: &Path, slip: &str) {
     let out = PathBuf::from(env::var("OUT_DIR").unwrap());
-    fs::write(out.join(DUMP_CALLS), text).unwrap();
-    let declaration = format!("#[path = {:?}]\npub mod dump_calls;\n", out.join(DUMP_CALLS));
-    fs::write(out.join("slipped.rs"), declaration).unwrap();
+    let slip = DUMP_SLIPS.iter().chain(&BOOK_SLIPS).find(|(known, _)| *known == slip).map(|(_, change)| change);
+    let mut declarations = String::new();
+    for file in [DUMP_CALLS, READ_BOOK] {
+        let source = here.join("src").join(file);
+        println!("cargo::rerun-if-changed={}", source.display());
+        let mut text = fs::read_to_string(&source).unwrap();
+        if let Some(change) = slip.filter(|change| change.file == file) {
+            text = changed(&text, change);
+        }
+        fs::write(out.join(file), text).unwrap();
+        let module = file.strip_suffix(".rs").unwrap();
+        // A slip may leave an import or a variable unused.
+        declarations += &format!("#[allow(unused)]\n#[path = {:?}]\npub mod {module};\n", out.join(file));
+    }
+    fs::write(out.join("slipped.rs"), declarations).unwrap();
 }

@@ -3,6 +3,13 @@
 cd "$(dirname "$0")" || exit 2
 cases=${1:-20000}
 
+# FILE: what the comparison shrank the case to, where it does that
+shrunk() {
+    if grep -q '^SHRUNK' "$1"; then
+        echo ", shrunk to $(sed -n '/^SHRUNK/,$p' "$1" | grep -c '^  vehicle') vehicle(s)"
+    fi
+}
+
 # LIST OPTION: the slips of a list, found by the comparison with this option
 try_all() {
     for slip in $(sed -n 's/^ *"\([a-z-]*\)",$/\1/p; s/^ *("\([a-z-]*\)", change.*/\1/p; s/^ *slip("\([a-z-]*\)",.*/\1/p' "$1"); do
@@ -16,9 +23,10 @@ try_all() {
         fi
         # A difference has status 1; with any other nothing was compared.
         [ "$status" -eq 1 ] || exit 2
-        echo "$slip: $(sed -n 's/^DIFFERENCE in \(case [0-9]*\).*/found in \1/p' "target/slips/$slip.txt"), shrunk to $(sed -n '/^SHRUNK/,$p' "target/slips/$slip.txt" | grep -c '^  vehicle') vehicle(s)"
+        echo "$slip: $(sed -n 's/^DIFFERENCE in \(case [0-9]*\).*/found in \1/p' "target/slips/$slip.txt")$(shrunk "target/slips/$slip.txt")"
     done
 }
 
 try_all original/slips.rs ''
 try_all slipped/dump_slips.rs --dumps
+try_all slipped/book_slips.rs --books

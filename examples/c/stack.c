@@ -12,7 +12,7 @@ enum { STACK = 1 << 20, PATTERN = 0xa5 };
 
 static uint8_t plan[SITE_PLAN_MOST + 1], book[SITE_BOOK_LEAST], dump[SITE_DUMP_LEAST];
 static size_t length;
-static uint64_t numbers[SITE_NUMBERS];
+static uint64_t numbers[SITE_NUMBERS], header[SITE_HEADER_NUMBERS], sessions[SITE_SESSIONS_MOST * SITE_SESSION_NUMBERS];
 static uint8_t *stack, *top;
 
 /* The stack that a call begins on, as near as a caller can tell. */
@@ -44,6 +44,13 @@ static void *continuing(void *allowances) {
     return NULL;
 }
 
+/* The book that was written last: a header and five sessions a block, with the count at 4. */
+static void *reading(void *none) {
+    top = __builtin_frame_address(0);
+    site_read_book(book, 512u * (1 + (book[4] + 4u) / 5), header, sessions, numbers);
+    return none;
+}
+
 /* The bytes between where the calls began and the deepest byte that was written. */
 static long depth(void *(*calls)(void *), void *with) {
     pthread_attr_t attributes;
@@ -61,19 +68,53 @@ static long depth(void *(*calls)(void *), void *with) {
     return top - deepest;
 }
 
+static long larger(long one, long other) { return one > other ? one : other; }
+
 /* The most that continuing takes, over dumps after each of the allowances. */
 static long most_of_continuing(uint32_t *allowances) {
     long most = 0;
     for (const uint32_t *allowance = allowances; *allowance <= SITE_ALLOWANCE_MOST; allowance++) {
         site_dump(plan, length, SITE_EVENTS, *allowance, book, sizeof book, dump, sizeof dump, numbers);
-        long taken = depth(continuing, allowances);
-        most = taken > most ? taken : most;
+        most = larger(most, depth(continuing, allowances));
     }
     return most;
 }
 
-int main(int count, char **words) {
+/* The most that reading takes, over the books of both engines under each of the allowances. */
+static long most_of_reading(const uint32_t *allowance) {
+    long most = 0;
+    for (; *allowance <= SITE_ALLOWANCE_MOST; allowance++)
+        for (uint32_t engine = SITE_EVENTS; engine <= SITE_STEPS; engine++) {
+            site_run(plan, length, engine, *allowance, book, sizeof book, numbers);
+            most = larger(most, depth(reading, NULL));
+        }
+    return most;
+}
+
+/* Prints what the calls take for the plan that was read. True if none takes more than site.h says. */
+static int measure(const char *name) {
     uint32_t allowances[] = {0, 1, 10, 100, 40000, SITE_ALLOWANCE_MOST, SITE_ALLOWANCE_MOST + 1};
+    const struct {
+        const char *call;
+        long taken, most;
+    } measured[] = {
+        {"site_check", depth(check, NULL), SITE_CHECK_STACK},
+        {"site_run", depth(run, allowances), SITE_RUN_STACK},
+        {"site_dump", depth(dumping, allowances), SITE_DUMP_STACK},
+        {"site_continue", most_of_continuing(allowances), SITE_CONTINUE_STACK},
+        {"site_read_book", most_of_reading(allowances), SITE_READ_BOOK_STACK},
+    };
+    int fine = 1;
+    printf("%s, bytes of stack", name);
+    for (size_t k = 0; k < sizeof measured / sizeof *measured; k++) {
+        printf("%s %s %ld", k == 0 ? ":" : ",", measured[k].call, measured[k].taken);
+        fine &= measured[k].taken <= measured[k].most;
+    }
+    printf("\n");
+    return fine;
+}
+
+int main(int count, char **words) {
     if (count < 2 || posix_memalign((void **)&stack, 4096, STACK) != 0) {
         fprintf(stderr, "usage: %s day.plan..\n", words[0]);
         return 2;
@@ -86,10 +127,7 @@ int main(int count, char **words) {
         }
         length = fread(plan, 1, sizeof plan, file);
         fclose(file);
-        long checked = depth(check, NULL), ran = depth(run, allowances), dumped = depth(dumping, allowances);
-        long continued = most_of_continuing(allowances);
-        printf("%s: site_check took %ld bytes of stack, site_run %ld, site_dump %ld, site_continue %ld\n", words[k], checked, ran, dumped, continued);
-        if (checked > SITE_CHECK_STACK || ran > SITE_RUN_STACK || dumped > SITE_DUMP_STACK || continued > SITE_CONTINUE_STACK) {
+        if (!measure(words[k])) {
             fprintf(stderr, "%s: more stack than site.h says\n", words[k]);
             return 1;
         }

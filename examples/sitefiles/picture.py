@@ -6,7 +6,8 @@ from itertools import accumulate
 from xml.sax.saxutils import escape
 
 from sitefiles.clock import minute, spelled
-from sitefiles.tables import counted, energy, outcome_count, warnings
+from sitefiles.sessions import energy
+from sitefiles.tables import counted, outcome_count, warnings
 
 # Lengths in pixels, times in seconds.
 WIDTH = 1120

@@ -21,6 +21,8 @@ RULES = {
     12: "the vehicle fits the charger, and charging it there would take longer than 604,800 s (a week)",
     13: "the buffer for the dump is shorter than 16,384 bytes",
     14: "the dump is not that of this plan after the number of handled events that it names",
+    15: "the book's length is 0, not a multiple of 512 bytes or above 14 blocks, or a block's check is wrong",
+    16: "a header or session field, a zero byte, or the block count for the session count is against the book's rules",
 }
 
 

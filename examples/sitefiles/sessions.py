@@ -118,3 +118,8 @@ def test_against(sessions, plan, file):
             id = getattr(session, kind)
             if id is not None and id not in known:
                 raise Damaged(f"{kind} {id} is not in {plan.name}: the {file} is of another plan")
+
+
+def energy(sessions):
+    """What those that have charged took, in kWh."""
+    return math.fsum(session.energy_kwh for session in sessions if session.energy_kwh is not None)

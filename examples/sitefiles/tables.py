@@ -1,10 +1,10 @@
 """Books as text: one book as a table, its sessions as CSV, and sums over many books."""
 import csv
-import math
 from dataclasses import astuple, dataclass, fields
 
 from sitefiles.clock import spelled
-from sitefiles.sessions import OUTCOMES, Session
+from sitefiles.sessions import OUTCOMES, Session, energy
+from sitefiles.totals import Totals, summed
 
 CSV_HEADER = {
     "arrival": "arrival_s",
@@ -101,40 +101,55 @@ def exact(value):
 
 # ---- sums over books
 
+SUMMED = ["book", "sessions", *OUTCOMES, "kWh", "longest wait s"]
+
 
 @dataclass(frozen=True)
 class Named:
-    """A book and the file that it came from."""
+    """A book's totals by the program, the file that they are of, and the book as this tool shows it, or why it cannot."""
 
     name: str
-    book: object
+    totals: Totals
+    book: object = None
+    fault: str = ""
 
 
 def totals(named):
-    """Sums over books as lines."""
-    books = [each.book for each in named]
-    sessions = [session for book in books for session in book.sessions]
-    by_engine = ", ".join(f"{sum(book.engine == engine for book in books)} by {engine}" for engine in ("events", "steps"))
-    by_outcome = [f"{sum(session.outcome == outcome for session in sessions)} {outcome}" for outcome in OUTCOMES]
+    """Sums over books as lines, with a row for each book and each charger."""
+    total = summed([each.totals for each in named])
+    by_outcome = [f"{count} {outcome}" for count, outcome in zip(total.by_outcome, OUTCOMES)]
+    sessions = [session for each in named if each.book for session in each.book.sessions]
     return [
-        f"{counted(len(books), 'book')} ({by_engine}), {counted(len(sessions), 'session')}: {', '.join(by_outcome)}",
-        f"energy of the charged sessions: {energy(sessions):.3f} kWh",
+        f"{counted(len(named), 'book')} ({by_engine(named)}), {counted(total.sessions, 'session')}: {', '.join(by_outcome)}",
+        f"energy of the charged sessions: {total.energy_kwh:.3f} kWh",
         longest_wait(named),
+        *aligned([SUMMED] + [summed_row(each.name, each.totals) for each in named]),
         *aligned([["charger", "sessions", "kWh"]] + by_charger(sessions)),
-        *(f"warning: {each.name}: {warning}" for each in named for warning in warnings(each.book)),
+        *(f"warning: {each.name}: {warning}" for each in named for warning in beware(each)),
     ]
 
 
-def energy(sessions):
-    return math.fsum(session.energy_kwh for session in sessions if session.energy_kwh is not None)
+def by_engine(named):
+    books = [each.book for each in named if each.book]
+    return ", ".join(f"{sum(book.engine == engine for book in books)} by {engine}" for engine in ("events", "steps"))
 
 
 def longest_wait(named):
-    waits = [(session.wait, session.vehicle, session.outcome, each.name) for each in named for session in each.book.sessions]
+    waits = [each for each in named if each.totals.sessions]
     if not waits:
         return "longest wait: none"
-    wait, vehicle, outcome, name = max(waits, key=lambda entry: entry[0])
-    return f"longest wait: {wait} s, vehicle {vehicle} ({outcome}) in {name}"
+    longest = max(waits, key=lambda each: each.totals.longest_wait)
+    return f"longest wait: {longest.totals.longest_wait} s, {waited(longest)}in {longest.name}"
+
+
+def waited(named):
+    """Whose wait it was, where the book can be shown."""
+    sessions = named.book.sessions if named.book else []
+    return next((f"vehicle {each.vehicle} ({each.outcome}) " for each in sessions if each.wait == named.totals.longest_wait), "")
+
+
+def summed_row(name, book):
+    return [name, *map(str, (book.sessions, *book.by_outcome)), f"{book.energy_kwh:.3f}", str(book.longest_wait)]
 
 
 def by_charger(sessions):
@@ -144,3 +159,10 @@ def by_charger(sessions):
         there = [session for session in sessions if session.charger == charger]
         rows.append([str(charger), str(len(there)), f"{energy(there):.3f}"])
     return rows
+
+
+def beware(named):
+    if named.book:
+        yield from warnings(named.book)
+    elif named.fault:
+        yield f"it is in the sums, but not among the engines and the chargers: {named.fault}"

@@ -4,6 +4,8 @@
 use std::path::{Path, PathBuf};
 use std::{env, fs};
 
+#[path = "../slipped/book_slips.rs"]
+mod book_slips;
 mod change;
 mod changes;
 #[path = "../slipped/dump_slips.rs"]
@@ -68,7 +70,8 @@ fn original_folder() -> PathBuf {
 fn slip() -> Option<Change> {
     let name = env::var("SLIP").ok().filter(|name| !name.is_empty())?;
     let found = slips::SLIPS.iter().find(|(known, _)| *known == name).map(|(_, change)| *change);
-    let names: Vec<&str> = slips::SLIPS.iter().chain(&dump_slips::DUMP_SLIPS).map(|(known, _)| *known).collect();
+    let all = slips::SLIPS.iter().chain(&dump_slips::DUMP_SLIPS).chain(&book_slips::BOOK_SLIPS);
+    let names: Vec<&str> = all.map(|(known, _)| *known).collect();
     if !names.contains(&name.as_str()) {
         stop(&format!("SLIP is {name}; known are: {}.", names.join(", ")));
     }

@@ -1,6 +1,6 @@
 //! Demand 3's sentences, tried on the oracle's own runs.
 use crate::blocks::{BLOCK, f64_at, u16_at, u32_at, u64_at};
-use crate::book::{LEAST_BOOK, SESSION, SESSIONS_A_BLOCK};
+use crate::book::{LEAST_BOOK, slots};
 use crate::generate::Case;
 use crate::plan::{self, Plan};
 use crate::{Numbers, run};
@@ -29,8 +29,7 @@ impl Run {
 
     fn sessions(&self) -> Vec<&[u8]> {
         let count = usize::from(u16_at(&self.book, 4));
-        let at = |k: usize| BLOCK * (1 + k / SESSIONS_A_BLOCK) + SESSION * (k % SESSIONS_A_BLOCK);
-        (0..count).map(|k| &self.book[at(k)..at(k) + SESSION]).collect()
+        slots(&self.book[BLOCK..]).take(count).map(|session| &session[..]).collect()
     }
 }
 

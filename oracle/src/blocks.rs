@@ -39,10 +39,27 @@ pub fn seal(block: &mut [u8], place: usize) {
     put(block, CHECK, &check.to_le_bytes());
 }
 
+/// Makes the check of one of the blocks good; the first is block 0.
+pub fn reseal(blocks: &mut [u8], k: usize) {
+    seal(&mut blocks[k * BLOCK..(k + 1) * BLOCK], k + 1);
+}
+
 pub fn seal_all(blocks: &mut [u8]) {
-    for (k, block) in blocks.chunks_exact_mut(BLOCK).enumerate() {
-        seal(block, k + 1);
+    for k in 0..blocks.len() / BLOCK {
+        reseal(blocks, k);
     }
+}
+
+/// The places of the blocks whose check is wrong.
+#[inline]
+pub fn wrong_checks(blocks: &[u8]) -> impl Iterator<Item = usize> {
+    let wrong = |(place, block): (usize, &[u8])| (u32_at(block, CHECK) != check_of(block, place)).then_some(place);
+    (1..).zip(blocks.chunks_exact(BLOCK)).filter_map(wrong)
+}
+
+#[inline]
+pub fn zero(bytes: &[u8]) -> bool {
+    bytes.iter().all(|byte| *byte == 0)
 }
 
 /// The 64-bit FNV-1a hash of bytes.

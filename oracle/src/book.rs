@@ -25,6 +25,31 @@ pub struct Entry {
     pub end: Option<f64>,
 }
 
+impl Entry {
+    /// The sixteen numbers that reading the book gives for it; a float is its bits.
+    pub fn numbers(&self) -> [u64; 16] {
+        let bits = |value: Option<f64>| value.map_or(0, f64::to_bits);
+        [
+            u64::from(self.vehicle),
+            u64::from(self.profile),
+            u64::from(self.charger.unwrap_or(0)),
+            u64::from(self.connector.unwrap_or(0)),
+            u64::from(self.outcome),
+            0, // The fleet, until request 9.
+            self.arrival,
+            self.plugin.unwrap_or(0),
+            self.unplug.unwrap_or(0),
+            self.wait,
+            bits(self.duration),
+            bits(self.idle),
+            bits(self.peak),
+            bits(self.energy),
+            self.start.to_bits(),
+            bits(self.end),
+        ]
+    }
+}
+
 /// The bytes that a book of so many sessions takes.
 pub fn book_bytes(sessions: usize) -> usize {
     BLOCK * (1 + sessions.div_ceil(SESSIONS_A_BLOCK))
@@ -46,9 +71,19 @@ pub fn write(book: &mut [u8], engine: u8, ended: bool, used: u64, entries: &[Ent
 /// Lays sessions out five a block, in a book's blocks of sessions or a dump's, which are zero before.
 pub fn write_sessions(blocks: &mut [u8], entries: &[Entry]) {
     for (k, entry) in entries.iter().enumerate() {
-        let at = BLOCK * (k / SESSIONS_A_BLOCK) + SESSION * (k % SESSIONS_A_BLOCK);
-        write_entry(&mut blocks[at..at + SESSION], entry);
+        write_entry(&mut blocks[session_at(k)..][..SESSION], entry);
     }
+}
+
+/// Where session k begins in the blocks of sessions.
+pub fn session_at(k: usize) -> usize {
+    BLOCK * (k / SESSIONS_A_BLOCK) + SESSION * (k % SESSIONS_A_BLOCK)
+}
+
+/// The places that blocks of sessions have for sessions, used or not.
+pub fn slots(blocks: &[u8]) -> impl Iterator<Item = &[u8; SESSION]> {
+    let places = blocks.chunks_exact(BLOCK).flat_map(|block| block[..SESSIONS_A_BLOCK * SESSION].chunks_exact(SESSION));
+    places.map(|session| session.try_into().unwrap())
 }
 
 fn write_entry(session: &mut [u8], entry: &Entry) {
@@ -71,11 +106,10 @@ fn write_entry(session: &mut [u8], entry: &Entry) {
 
 /// The sessions of a book. Which fields are missing follows from the outcome.
 pub fn read(book: &[u8]) -> Vec<Entry> {
-    let at = |k: usize| BLOCK * (1 + k / SESSIONS_A_BLOCK) + SESSION * (k % SESSIONS_A_BLOCK);
-    (0..usize::from(u16_at(book, 4))).map(|k| read_entry(&book[at(k)..at(k) + SESSION])).collect()
+    slots(&book[BLOCK..]).take(usize::from(u16_at(book, 4))).map(read_entry).collect()
 }
 
-fn read_entry(session: &[u8]) -> Entry {
+fn read_entry(session: &[u8; SESSION]) -> Entry {
     let outcome = session[13];
     let (plugged, charged) = (outcome <= 1, outcome == 1);
     Entry {

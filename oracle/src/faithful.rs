@@ -1,7 +1,9 @@
-//! The calls over the original.
+//! The calls over the original, and the reader of books.
 pub use original;
 
 #[path = "calls.rs"]
 pub mod calls;
 #[path = "dump_calls.rs"]
 pub mod dump_calls;
+#[path = "read_book.rs"]
+pub mod read_book;

@@ -1,5 +1,5 @@
 //! The plan: its fields and refusals 4 to 11 of document 01's table.
-use crate::blocks::{BLOCK, CHECK, check_of, f64_at, u16_at, u32_at, u64_at};
+use crate::blocks::{BLOCK, CHECK, f64_at, u16_at, u32_at, u64_at, wrong_checks, zero};
 
 pub const MOST_PROFILES: usize = 16;
 pub const MOST_CHARGERS: usize = 32;
@@ -145,8 +145,7 @@ fn length(bytes: &[u8]) -> Result<(), Refusal> {
 }
 
 fn checks(bytes: &[u8]) -> Result<(), Refusal> {
-    let wrong = |(k, block): (usize, &[u8])| (u32_at(block, CHECK) != check_of(block, k + 1)).then_some(k + 1);
-    first(5, bytes.chunks_exact(BLOCK).enumerate().filter_map(wrong))
+    first(5, wrong_checks(bytes))
 }
 
 fn header(bytes: &[u8]) -> Result<Blocks<'_>, Refusal> {
@@ -162,10 +161,6 @@ fn header(bytes: &[u8]) -> Result<Blocks<'_>, Refusal> {
 fn within(block: &[u8], at: usize, low: f64, high: f64) -> bool {
     let value = f64_at(block, at);
     value.is_sign_positive() && low <= value && value <= high
-}
-
-fn zero(bytes: &[u8]) -> bool {
-    bytes.iter().all(|byte| *byte == 0)
 }
 
 /// Check 7 for one block.

@@ -1,5 +1,5 @@
 //! The product's exported calls. Nothing compares these declarations with the Rattle source: keep them in step.
-use crate::Numbers;
+use crate::{Header, Numbers, Sessions};
 
 unsafe extern "C" {
     fn site_check(plan: *const u8, plan_len: usize, numbers: *mut [u64; 11]);
@@ -31,6 +31,13 @@ unsafe extern "C" {
         further: u32,
         book: *mut u8,
         book_len: usize,
+        numbers: *mut [u64; 11],
+    );
+    fn site_read_book(
+        book: *const u8,
+        book_len: usize,
+        header: *mut [u64; 4],
+        sessions: *mut [u64; 1024],
         numbers: *mut [u64; 11],
     );
 }
@@ -71,5 +78,12 @@ pub fn resume(plan: &[u8], dump: &[u8], further: u32, book: &mut [u8]) -> Number
     let (book, book_len) = (book.as_mut_ptr(), book.len());
     // SAFETY: each pointer comes with the length of the memory it points to; there are always eleven numbers.
     unsafe { site_continue(plan, plan_len, dump, dump_len, further, book, book_len, &mut out) };
+    out
+}
+
+pub fn read_book(book: &[u8], header: &mut Header, sessions: &mut Sessions) -> Numbers {
+    let mut out = [UNWRITTEN; 11];
+    // SAFETY: the book comes with its length; the others point to arrays of the lengths declared.
+    unsafe { site_read_book(book.as_ptr(), book.len(), header, sessions, &mut out) };
     out
 }

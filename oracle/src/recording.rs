@@ -1,11 +1,34 @@
-//! What the records of answers share: changes to a replaying program's buffer, and the folder.
+//! What the records of answers share: changes to a replaying program's buffer, digests, and the folder.
+use crate::arguments::{Words, stop};
 use std::path::Path;
 
-/// Writes a record to its folder, which is made where it is not there.
-pub fn write(folder: &Path, input: &[u8], output: &[u8]) -> std::io::Result<()> {
+/// The folder and the seed that a recording command is given.
+pub fn folder_and_seed(usage: &'static str) -> (String, u64) {
+    let mut words = Words::of(usage);
+    let folder = words.needed("FOLDER");
+    if folder.starts_with('-') {
+        words.wrong(format!("{folder} is no folder"));
+    }
+    let seed = words.number_or("SEED", 1);
+    words.end();
+    (folder, seed)
+}
+
+/// Writes a record of so many cases to its folder, which is made where it is not there.
+pub fn keep(folder: &str, cases: usize, input: &[u8], output: &[u8]) {
+    write(Path::new(folder), input, output).unwrap_or_else(|error| stop(format!("{folder}: {error}")));
+    println!("{cases} cases, {} bytes in, {} bytes out", input.len(), output.len());
+}
+
+fn write(folder: &Path, input: &[u8], output: &[u8]) -> std::io::Result<()> {
     std::fs::create_dir_all(folder)?;
     std::fs::write(folder.join("stdin"), input)?;
     std::fs::write(folder.join("stdout"), output)
+}
+
+/// A number that goes by every number and by their order: 31 times the one so far, and the number.
+pub fn digest(numbers: impl IntoIterator<Item = u64>) -> u64 {
+    numbers.into_iter().fold(0, |sum: u64, number| sum.wrapping_mul(31).wrapping_add(number))
 }
 
 /// Records how the buffer's front turns into the bytes, and makes the changes: their 16-bit number, then for each a 16-bit

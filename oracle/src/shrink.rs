@@ -1,5 +1,5 @@
 //! Makes a case that shows a difference smaller, as long as it still shows one.
-use crate::blocks::{BLOCK, Block, f64_at, put, put_f64, u32_at, u64_at};
+use crate::blocks::{BLOCK, Block, f64_at, put, put_f64, reseal, u32_at, u64_at};
 use crate::book::LEAST_BOOK;
 use crate::draft::{Draft, points, set_points};
 use crate::generate::Case;
@@ -224,7 +224,7 @@ fn raw(case: &Case) -> Vec<Case> {
     for k in 0..len / BLOCK {
         let mut plan = case.plan.clone();
         plan[k * BLOCK..(k + 1) * BLOCK].fill(0);
-        crate::blocks::seal(&mut plan[k * BLOCK..(k + 1) * BLOCK], k + 1);
+        reseal(&mut plan, k);
         if plan != case.plan {
             smaller.push(Case { plan, ..case.clone() });
         }

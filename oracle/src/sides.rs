@@ -10,11 +10,14 @@ use std::process::{Command, Stdio};
 use std::sync::LazyLock;
 
 #[cfg(product)]
-pub use crate::product::{check as other_check, dump as other_dump, resume as other_resume, run as other_run};
+pub use crate::product::{
+    check as other_check, dump as other_dump, read_book as other_read_book, resume as other_resume, run as other_run,
+};
 #[cfg(not(product))]
 pub use crate::slipped::{
     calls::{check as other_check, run as other_run},
     dump_calls::{dump as other_dump, resume as other_resume},
+    read_book::read_book as other_read_book,
 };
 
 pub const OTHER: &str = if cfg!(product) {

@@ -1,7 +1,8 @@
 //! A case in words and as hexadecimal digits.
-use crate::blocks::{BLOCK, CHECK, check_of, f64_at, u16_at, u32_at, u64_at};
-use crate::book::{self, LEAST_BOOK};
+use crate::blocks::{BLOCK, f64_at, u16_at, u32_at, u64_at, wrong_checks, zero};
+use crate::book::{self, LEAST_BOOK, slots};
 use crate::draft::{Draft, points};
+use crate::faithful::read_book;
 use crate::generate::Case;
 use crate::plan::CAPS;
 use std::fmt::Write;
@@ -31,12 +32,11 @@ pub fn describe(case: &Case) -> String {
             let _ = writeln!(text, "  its book: {session:?}");
         }
     }
-    for (k, block) in case.plan.chunks_exact(BLOCK).enumerate() {
-        if u32_at(block, CHECK) != check_of(block, k + 1) {
-            let _ = writeln!(text, "  block {}: wrong check", k + 1);
-        }
-    }
-    text
+    text + &wrong_checks_of(&case.plan)
+}
+
+fn wrong_checks_of(bytes: &[u8]) -> String {
+    wrong_checks(bytes).map(|place| format!("  block {place}: wrong check\n")).collect()
 }
 
 fn parts(draft: &Draft) -> String {
@@ -86,7 +86,50 @@ fn parts(draft: &Draft) -> String {
     text
 }
 
-/// The program's input for the case; a run of zero bytes is written as its length in brackets.
+/// What the sixteen numbers of a session are.
+pub const SESSION_NUMBERS: [&str; 16] = [
+    "vehicle",
+    "profile",
+    "charger",
+    "connector",
+    "outcome",
+    "fleet",
+    "arrival",
+    "plugin",
+    "unplug",
+    "wait",
+    "charge duration",
+    "idle",
+    "peak",
+    "energy",
+    "start",
+    "end",
+];
+
+/// The bytes of a book, whatever they are: its header, and each place for a session that is not zero.
+pub fn describe_book(book: &[u8]) -> String {
+    let mut text = format!("a book of {} bytes\n", book.len());
+    let Some((header, blocks)) = book.split_at_checked(BLOCK) else { return text };
+    let _ = writeln!(
+        text,
+        "  letters {:02x?}, count {}, engine {}, ended {}, used {}",
+        &header[..4],
+        u16_at(header, 4),
+        header[6],
+        header[7],
+        u64_at(header, 8)
+    );
+    for (k, slot) in slots(blocks).enumerate().filter(|(_, slot)| !zero(&slot[..])) {
+        let (whole, bits) = SESSION_NUMBERS.split_at(10);
+        let numbers = read_book::numbers(slot);
+        let whole = whole.iter().zip(numbers).map(|(name, number)| format!("{name} {number}"));
+        let bits = bits.iter().zip(&numbers[10..]).map(|(name, bits)| format!("{name} {bits:#018x}"));
+        let _ = writeln!(text, "  session {}: {}", k + 1, whole.chain(bits).collect::<Vec<_>>().join(", "));
+    }
+    text + &wrong_checks_of(book)
+}
+
+/// Bytes as digits; a run of zero bytes is written as its length in brackets.
 pub fn hex(bytes: &[u8]) -> String {
     let mut text = String::new();
     let mut k = 0;

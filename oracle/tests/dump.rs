@@ -58,36 +58,7 @@ fn events(dump: &[u8]) -> Vec<(u64, u8, u16)> {
 
 mod the_layout {
     use super::*;
-
-    /// A block of zero bytes but for these fields and its check.
-    fn block(fields: &[(usize, &[u8])], check: u32) -> Vec<u8> {
-        let mut block = vec![0; BLOCK];
-        for (at, bytes) in fields {
-            put(&mut block, *at, bytes);
-        }
-        put(&mut block, 508, &check.to_le_bytes());
-        block
-    }
-
-    /// M1's session: car, profile and charger 1, NACS, charged; 100 to 2,020, 1,800 s, 120 s, 50 kW, 25 kWh, 0.25 to 0.75.
-    fn session(check: u32) -> Vec<u8> {
-        let fields: [(usize, &[u8]); 13] = [
-            (0, &[1]),
-            (4, &[1]),
-            (8, &[1]),
-            (12, &[5, 1]),
-            (16, &[100]),
-            (24, &[100]),
-            (32, &[0xe4, 0x07]),
-            (53, &[0x20, 0x9c, 0x40]),
-            (62, &[0x5e, 0x40]),
-            (70, &[0x49, 0x40]),
-            (78, &[0x39, 0x40]),
-            (86, &[0xd0, 0x3f]),
-            (94, &[0xe8, 0x3f]),
-        ];
-        block(&fields, check)
-    }
+    use common::{block, m1_session};
 
     /// The bay's blocks: header 1, profile 2, charger 3, car 4.
     #[test]
@@ -101,14 +72,14 @@ mod the_layout {
         let after_1 = [
             block(&[(0, b"DUMP"), (6, &[1]), (8, &[2]), (10, &[1]), (16, &[1]), busy], 0x5053_554b),
             block(&[(0, &[0x6c, 0x07]), (8, &[1]), (10, &[4]), (16, &[0xe4, 0x07]), (24, &[2]), (26, &[3])], 462_677),
-            session(0x8134_29b7),
+            m1_session(0x8134_29b7),
         ];
         let after_2 = [
             block(&[(0, b"DUMP"), (6, &[1]), (8, &[1]), (10, &[1]), (16, &[2]), busy], 0x5053_554b),
             block(&[(0, &[0xe4, 0x07]), (8, &[2]), (10, &[3])], 198_632),
-            session(0x8134_29b7),
+            m1_session(0x8134_29b7),
         ];
-        let after_3 = [block(&[(0, b"DUMP"), (10, &[1]), (16, &[3])], 0x504e_5548), session(0x8134_29b6)];
+        let after_3 = [block(&[(0, b"DUMP"), (10, &[1]), (16, &[3])], 0x504e_5548), m1_session(0x8134_29b6)];
         assert!(dumped(&plan, 0) == after_0.concat());
         assert!(dumped(&plan, 1) == after_1.concat());
         assert!(dumped(&plan, 2) == after_2.concat());

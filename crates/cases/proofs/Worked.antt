@@ -18,25 +18,28 @@ use Rattle.power.specs.Power.{allocate}
 use Rattle.engine.specs.Timestep.{openSession, plugged, finalized, round}
 use Rattle.engine.specs.Demand.{Stop}
 use Rattle.plan.specs.Bytes.{leAt, bytes, fields, pieces}
-use Rattle.plan.specs.Blocks.{words, checkOf, sealed, passes, block}
+use Rattle.plan.specs.Blocks.{words, checkOf, sealed, passes, block, wholeBlocks}
 use Rattle.plan.specs.Search.{firstIndex, every, each}
 use Rattle.plan.specs.Fields.{bytesIn, connectorsOk, capOk, pointCount, pointOk}
 use Rattle.plan.specs.Places.{kindAt}
-use Rattle.plan.specs.Plan.{idAt, withId, newSoc, firstRefusal, lengthOk, checkBlocks}
+use Rattle.plan.specs.Plan.{idAt, withId, newSoc, firstRefusal, checkBlocks}
 use Rattle.files.specs.Read.{readPlan, pointsOf, curveOfProfile, batteryOf, chargersOf, connectorRows, profileIndex, vehicleOf, vehicleIn, vehiclesOf, limitOf}
 use Rattle.files.specs.Pairs.{failingCharger, failingPair}
 use Rattle.files.specs.Check.{checkPlan}
-use Rattle.files.specs.Call.{stopOf}
+use Rattle.files.specs.Call.{stopOf, bookOf}
 use Rattle.files.specs.BookSession.{vehicleNumber, chargerId, bookSessions, noSession}
-use Rattle.files.specs.SessionBlocks.{sessionBytes, slot, sessionBlock, sessionBlocks}
+use Rattle.files.specs.SessionBlocks.{sessionBytes, slot, sessionBlock, sessionBlocks, sessionOf, sessionsFrom}
+use Rattle.files.specs.Book.{bookBytes, sessionsIn}
+use Rattle.files.specs.Book as B
 use Rattle.dump.specs.EventBlocks.{eventBytes, eventSlot, eventBlock, eventBlocks}
 use Rattle.dump.specs.Dump.{table, headerBlock, dumpBytes, dumpOf}
+use Rattle.book_reader.specs.Reader.{damaged, sessionOk, restOk, againstRules, testAnswer, readBook, sessionNumbers}
 use Rattle.plan.specs.declared.answer.Answer.{Answer}
 use Rattle.plan.specs.declared.answer.Answer.the-variants.{Fine, Refused}
 use Rattle.plan.specs.declared.answer.Refusal.the-variants.{Broken, CannotCharge}
 use Rattle.plan.specs.declared.answer.Rule.the-variants.{Field}
 use Rattle.cases.specs.Bay.{kwh, Bay, plan, bay, secondCar, atTarget, atOneKw, nacsCapped}
-use Rattle.cases.specs.Cases.{events, steps, run, Result, ifFine, result, Worked, _gives_, Holds, worked}
+use Rattle.cases.specs.Cases.{events, steps, run, Result, ifFine, backFrom, result, Worked, _gives_, Holds, worked}
 
 -- ---- a plan's bytes read, checked and run; each line `unfolding` has all that it computes by
 
@@ -47,7 +50,7 @@ unfolding plan block firstIndex each idAt withId pointCount
 read b = readPlan (plan b)
 
 check : Bay → Answer
-unfolding read passes every bytesIn connectorsOk capOk pointOk newSoc kindAt firstRefusal lengthOk checkBlocks failingCharger failingPair checkPlan
+unfolding read passes every bytesIn connectorsOk capOk pointOk newSoc kindAt firstRefusal wholeBlocks checkBlocks failingCharger failingPair checkPlan
 check b = checkPlan (plan b)
 
 stop : ℕ → ℕ → Bay → Stop
@@ -60,6 +63,12 @@ dumped : ℕ → Bay → List ℕ
 unfolding stop dumpOf dumpBytes headerBlock table eventBlocks eventBlock eventSlot eventBytes sessionBlocks sessionBlock slot sessionBytes noSession
     bookSessions vehicleNumber chargerId sealed checkOf words leAt bytes fields pieces toBits
 dumped n b = dumpOf (plan b) n
+
+-- a book read back
+back : List ℕ → Result
+unfolding stop dumped bookOf bookBytes B.headerBlock readBook testAnswer damaged againstRules sessionOk restOk sessionsIn sessionsFrom sessionOf sessionNumbers
+    wholeBlocks passes block every bytesIn
+back b = backFrom (readBook b)
 
 -- ---- each plan is checked once
 
@@ -115,7 +124,7 @@ _and_ : {w : Worked} {ws : List Worked} → Holds w → All Holds ws → All Hol
 h and hs = also h hs
 
 pub worked-through : All Holds worked
-unfolding worked result stop dumped
+unfolding worked result stop dumped back
 worked-through =
     by events 10 bay bay-fine refl
     and by events 10 (secondCar 1800 10) m2-fine refl
@@ -133,6 +142,9 @@ worked-through =
     and by events 10 (atOneKw (kwh 169)) m12-refused refl
     and by events 10 (nacsCapped (record { 0 = ratio 125 2 })) lead-fine refl
     and by events 10 (nacsCapped (record { 0 = ratio 1 2 })) lead-refused refl
+    and refl
+    and refl
+    and refl
     and refl
     and refl
     and none

@@ -1,9 +1,10 @@
--- Rules. M1 to M12 of the paper's bay, and requests 8 and 1 at it, worked through: one list of cases, each with what it gives.
+-- Rules. M1 to M12 of the paper's bay, and requests 8, 1 and 5 at it, worked through: one list of cases, each with what it gives.
 use Prim.Native.Nat.{ℕ, _+_, _-_, _*_}
 use mathlib.Core.Path.{_≡_}
 use mathlib.Core.Bool.{Bool, true, false}
 use mathlib.Core.List.{List, [], _∷_, map}
 use lib.Ieee.{Float}
+use lib.ListN.{set}
 use Rattle.curve.specs.F64.{_⊗_, ratio}
 use Rattle.curve.specs.Curve.{integrateOver, curveOf}
 use Rattle.curve.specs.declared.points.Point.{Point}
@@ -25,13 +26,18 @@ use Rattle.plan.specs.Bytes.{leAt}
 use Rattle.plan.specs.Search.{each}
 use Rattle.files.specs.Read.{readPlan}
 use Rattle.files.specs.Check.{checkPlan}
-use Rattle.files.specs.Call.{stopOf}
+use Rattle.files.specs.BookSession.{bits}
+use Rattle.files.specs.Book.{bookBytes}
+use Rattle.files.specs.Call.{stopOf, bookOf}
+use Rattle.files.specs.declared.book_session.BookSession.{BookSession}
 use Rattle.plan.specs.declared.answer.Rule.the-variants.{Field}
 use Rattle.plan.specs.declared.answer.Refusal.{Refusal}
-use Rattle.plan.specs.declared.answer.Refusal.the-variants.{Broken, CannotCharge}
+use Rattle.plan.specs.declared.answer.Refusal.the-variants.{Broken, CannotCharge, BookDamaged, BookAgainstRules}
 use Rattle.plan.specs.declared.answer.Answer.{Answer}
 use Rattle.plan.specs.declared.answer.Answer.the-variants.{Fine, Refused}
 use Rattle.dump.specs.Dump.{dumpOf, handledIn}
+use Rattle.book_reader.specs.Reader.{Reading, contents, readBook, sessionNumbers}
+use Rattle.book_reader.specs.Reader as R
 use Rattle.cases.specs.Bay.{kw, kwh, seconds, percent, point, plan, bay, secondCar, atTarget, atOneKw, nacsCapped}
 
 -- ---- what a case is, and what it gives
@@ -52,11 +58,13 @@ pub data Case : Type 0 where
   allot : Kw → List ChargerState → Case
   -- a run of a plan's bytes by events, dumped after so many of them
   dump : ℕ → List ℕ → Case
+  -- a book's bytes read back
+  readBack : List ℕ → Case
 
 pub data Result : Type 0 where
   -- the plan is fine; units used, ended, sessions
   stopped : ℕ → Bool → List Session → Result
-  -- the plan is refused
+  -- the plan or the book is refused
   refused : Refusal → Result
   -- duration, energy, peak
   takes : ChargingOutput → Result
@@ -64,6 +72,8 @@ pub data Result : Type 0 where
   caps : List Kw → Result
   -- a dump's handled count, the queue's blocks, the busy chargers' blocks with their vehicles', the events' times, kinds and blocks
   shows : ℕ → List ℕ → List ℕ → List (List ℕ) → Result
+  -- a book's engine, ended and used, and the sixteen numbers of each session
+  holds : ℕ → ℕ → ℕ → List (List ℕ) → Result
 
 abbrev pub ifFine : Answer → Stop → Result
 ifFine Fine s = stopped (s .used) (s .ended) (s .sessions)
@@ -80,11 +90,16 @@ eventsAt b m = each (λ k. leAt 8 b (512 + 16 * k) ∷ leAt 1 b (520 + 16 * k) �
 abbrev pub shown : List ℕ → Result
 shown b = shows (handledIn b) (wordsAt b 24 (leAt 2 b 4)) (wordsAt b 152 (2 * leAt 2 b 6)) (eventsAt b (leAt 2 b 8))
 
+abbrev pub backFrom : Reading → Result
+backFrom (R.refused x) = refused x
+backFrom (contents c) = holds (c .engine) (c .ended) (c .used) (map sessionNumbers (c .sessions))
+
 unfoldable pub result : Case → Result
 result (run engine allowance plan) = ifFine (checkPlan plan) (stopOf (readPlan plan) engine allowance)
 result (charge battery points start target cap) = takes (integrateOver (curveOf points) battery start target cap)
 result (allot limit states) = caps (map (λ (s : ChargerState). s .cap) (allocate (AtMost limit) (λ k. curveOf (bay .points)) states))
 result (dump n plan) = shown (dumpOf plan n)
+result (readBack book) = backFrom (readBook book)
 
 infix 68 _gives_
 pub data Worked : Type 0 where
@@ -163,6 +178,30 @@ asks50 status cap =
 abbrev pub oneRound : ChargingOutput
 oneRound = output (record { 0 = ratio 1 2 }) (record { 0 = ratio 50 1 ⊗ hours }) (kw 50)
 
+-- request 5: the book of M1, and its session at a connector
+abbrev pub firstCarAt : ℕ → BookSession
+firstCarAt code =
+    record {
+      «vehicle_id» = 4;
+      «profile_id» = 2;
+      «charger_id» = 3;
+      connector = code;
+      outcome = 1;
+      arrival = 100;
+      plugin = 100;
+      unplug = 2020;
+      wait = 0;
+      duration = bits (ratio 1800 1);
+      idle = bits (ratio 120 1);
+      peak = bits (ratio 50 1);
+      energy = bits (ratio 25 1);
+      start = bits (ratio 1 4);
+      end = bits (ratio 3 4);
+    }
+
+abbrev pub firstBook : ℕ → List ℕ
+firstBook code = bookBytes events 1 3 (firstCarAt code ∷ [])
+
 -- ---- the list
 
 unfoldable pub worked : List Worked
@@ -199,4 +238,8 @@ worked =
     -- request 1: M2 after both arrivals, the charger of block 3 with the car of block 4, that of block 5 queued; M1 once it has ended
     dump 2 (plan (secondCar 1800 10)) gives shows 2 (5 ∷ []) (3 ∷ 4 ∷ []) ((1900 ∷ 1 ∷ 4 ∷ []) ∷ (2000 ∷ 1 ∷ 5 ∷ []) ∷ (2020 ∷ 2 ∷ 3 ∷ []) ∷ []) ∷
     dump 10 (plan bay) gives shows 3 [] [] [] ∷
+    -- request 5: the book of M1 gives its session back; with a byte changed it is refused by 15, with a connector of 6 by 16
+    readBack (bookOf (plan bay) events (stopOf (readPlan (plan bay)) events 10)) gives holds events 1 3 (sessionNumbers (firstCarAt 5) ∷ []) ∷
+    readBack (set (firstBook 5) 512 5) gives refused BookDamaged ∷
+    readBack (firstBook 6) gives refused BookAgainstRules ∷
     []

@@ -8,12 +8,13 @@ use libc::STDERR_FILENO;
 use libc::STDIN_FILENO;
 use libc::STDOUT_FILENO;
 use plan::answer::run_numbers;
-use plan::bytes::put;
+use recorded::answer_bytes;
+use recorded::at_most;
 use recorded::byte_at;
 use recorded::change;
+use recorded::mixed;
 use recorded::u16_at;
 use recorded::u32_at;
-ghost use Prim.Native.Nat.{_≤_};
 
 // Of a call: 0 for dump and 1 for continue, its numbers, and the lengths of what is lent.
 struct Call {
@@ -36,13 +37,6 @@ fn call_at(recorded: &[u8], at: usize) -> Call {
     }
 }
 
-// `n`, or `most` where that is less.
-fn at_most(n: usize, most: usize) -> usize
-    ensures { λ r. ⌜ r ≤ most ⌝ }
-{
-    if n < most { n } else { most }
-}
-
 // The numbers of the call.
 fn answer(
     kind: usize,
@@ -58,33 +52,14 @@ fn answer(
     run_numbers(resume(plan, dump, units, book))
 }
 
-// A number that goes by every byte and by their order: 31 times the one so far, and the byte.
 fn digest(s: &[u8]) -> u64 {
     let mut sum: u64 = 0;
     let mut i: usize = 0;
     while i < s.len() {
-        let times32 = doubled(doubled(doubled(doubled(doubled(sum)))));
-        sum = std::num::wrapping_add_u64(std::num::wrapping_sub_u64(times32, sum), s[i] as u64);
+        sum = mixed(sum, byte_at(s, i) as u64);
         i += 1;
     }
     sum
-}
-
-fn doubled(x: u64) -> u64 {
-    std::num::wrapping_add_u64(x, x)
-}
-
-// The numbers of a call and the digests of its buffers, eight bytes each.
-fn answer_bytes(numbers: [u64; 11], book: u64, dump: u64) -> [u8; 104] {
-    let mut out = [0u8; 104];
-    let mut i: usize = 0;
-    while i < 11 {
-        put(&mut out, 8 * i, 8, numbers[i]);
-        i += 1;
-    }
-    put(&mut out, 88, 8, book);
-    put(&mut out, 96, 8, dump);
-    out
 }
 
 fn write_answer(numbers: [u64; 11], book: u64, dump: u64) {

@@ -2,6 +2,7 @@ pub mod Kept
 pub mod Moves
 pub mod Laws
 pub mod Waits
+pub mod Fitted
 pub mod Places
 pub mod At
 pub mod Simulations

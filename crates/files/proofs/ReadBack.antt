@@ -14,6 +14,7 @@ use Rattle.files.specs.Book.{headerBlock, bookBytes, sessionCount, bookO
 use Rattle.files.specs.declared.book_session.BookSession.{BookSession}
 use Rattle.plan.proofs.bytes.Laws.{read-back, next-place, Begins}
 use Rattle.plan.proofs.blocks.Laws.{sealed-passes, length-sealed}
+use Rattle.files.proofs.book_session.Laws.{all-fit}
 use Rattle.files.proofs.session_blocks.Laws.{length-session-block, length-session-blocks, session-block-passes, block-at, session-at, sessions-back}
 
 pub header-length : (count engine ended used : ℕ) → length (headerBlock count engine ended used) ≡ 512
@@ -97,5 +98,6 @@ book-back engine ended used xs buffer n e d u fits =
       ended-byte = ended-back engine ended used xs rest (omega arith);
       used-units = used-back engine ended used xs rest (omega arith);
       sessions = rw count (book-sessions-back engine ended used xs rest fits);
+      whole = all-fit xs fits;
       checks = book-passes engine ended used xs buffer;
     }

@@ -4,10 +4,12 @@ use mathlib.Core.Path.{_≡_}
 use mathlib.Core.Bool.{true}
 use mathlib.Core.List.{List, [], _∷_, _++_}
 use lib.ListN.{length, take, drop}
+use Rattle.charger.specs.Lists.{All}
 use Rattle.plan.specs.Bytes.{leAt, fields}
 use Rattle.plan.specs.Blocks.{sealed, passes, block}
 use Rattle.plan.specs.Search.{each}
 use Rattle.files.specs.declared.book_session.BookSession.{BookSession}
+use Rattle.files.specs.BookSession.{Fits}
 use Rattle.files.specs.SessionBlocks.{sessionBlocks, sessionOffset, sessionsFrom}
 
 -- the header's block: the letters B, O, O, K; session count, engine, ended and used
@@ -51,7 +53,8 @@ outcomesOf b = each (outcomeAt b) 0 (sessionCount b)
 unfoldable pub sessionsIn : List ℕ → List BookSession
 sessionsIn b = sessionsFrom b 512 0 (sessionCount b)
 
--- a book gives back what was written: the header's count, engine, ended and used, and the sessions; every block passes its check
+-- a book gives back what was written: the header's count, engine, ended and used, and the sessions, none of whose fields was cut off;
+-- every block passes its check
 pub record ReadBack (engine ended used : ℕ) (xs : List BookSession) (book : List ℕ) : Type 0 where
   pub letters : take 4 book ≡ 66 ∷ 79 ∷ 79 ∷ 75 ∷ []
   pub count : sessionCount book ≡ length xs
@@ -59,4 +62,5 @@ pub record ReadBack (engine ended used : ℕ) (xs : List BookSession) (book : Li
   pub ended-byte : leAt 1 book 7 ≡ ended
   pub used-units : leAt 8 book 8 ≡ used
   pub sessions : sessionsIn book ≡ xs
+  pub whole : All Fits xs
   pub checks : (k : ℕ) → k < 1 + (length xs + 4) / 5 → passes (k + 1) (block book k) ≡ true

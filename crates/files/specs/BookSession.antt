@@ -1,41 +1,40 @@
--- Rules. What the book says of a session.
-use Prim.Native.Nat.{ℕ}
-use mathlib.Core.Bool.{Bool, true, false, cond}
+-- Rules. What the book says of a session. Its floats go by their bits.
+use Prim.Native.Nat.{ℕ, _^_, _<_}
+use mathlib.Core.Bool.{Bool, cond}
 use mathlib.Core.List.{List, map}
-use lib.Dec.{ltb, eqb}
-use lib.Ieee.{Float}
-use Rattle.curve.specs.F64.{ratio}
+use lib.Dec.{leb, ltb, eqb}
+use lib.Ieee.{Float, binary64, toBits}
 use Rattle.charger.specs.Vehicle.{connectorOf, vehicleAt}
 use Rattle.charger.specs.declared.connector.Common.{Common}
 use Rattle.charger.specs.declared.connector.Common.the-variants.{Connector, Nothing}
 use Rattle.charger.specs.declared.vehicle.Vehicle.{Vehicle}
 use Rattle.engine.specs.Plan.{rowAt}
 use Rattle.engine.specs.Demand.{outcomeNumber}
-use Rattle.engine.specs.declared.session.Outcome.{Outcome}
-use Rattle.engine.specs.declared.session.Outcome.the-variants.{Open, Charged, Reneged, Balked}
 use Rattle.engine.specs.declared.session.Session.{Session}
 use Rattle.plan.specs.Bytes.{leAt}
 use Rattle.plan.specs.Places.{chargerCount, vehicleCount, chargerBlock, vehicleBlock}
 use Rattle.files.specs.Read.{connectorRows, vehiclesOf}
 use Rattle.files.specs.declared.book_session.BookSession.{BookSession}
 
--- the outcomes 2 and 3 have no charger: all is missing but ids of vehicle and profile, outcome, arrival, wait, start
-abbrev pub plugged : Outcome → Bool
-plugged Open = true
-plugged Charged = true
-plugged Reneged = false
-plugged Balked = false
+-- ---- which fields a session has, by the number of its outcome; a field that is missing is zero bytes
+
+-- outcomes 2 and 3 have no charger: all is missing but ids of vehicle and profile, outcome, arrival, wait, start
+abbrev pub plugged : ℕ → Bool
+plugged o = leb o 1
 
 -- for 0 unplug, charge duration, peak and energy are missing
-abbrev pub charged : Outcome → Bool
-charged Open = false
-charged Charged = true
-charged Reneged = false
-charged Balked = false
+abbrev pub charged : ℕ → Bool
+charged o = eqb o 1
 
--- a float, zero where it is missing
-abbrev pub kept : Bool → Float → Float
-kept t x = cond t x (ratio 0 1)
+-- a field, zero where it is missing
+abbrev pub kept : Bool → ℕ → ℕ
+kept there x = cond there x 0
+
+-- ---- what the book says of a session of the engines
+
+-- an f64 by its bits
+abbrev pub bits : Float → ℕ
+bits x = toBits binary64 x
 
 -- the code of a connector
 abbrev pub codeOf : Common → ℕ
@@ -50,27 +49,27 @@ vehicleNumber plan v at = cond (ltb v (vehicleCount plan)) (leAt 4 (vehicleBlock
 unfoldable pub chargerId : List ℕ → ℕ → ℕ
 chargerId plan c = cond (ltb c (chargerCount plan)) (leAt 4 (chargerBlock plan c) 0) 0
 
--- what the book says of a session of the engines
+-- what the book says of a session
 abbrev pub entry : List ℕ → List Vehicle → List (List Bool) → Session → BookSession
 entry plan vehicles connectors x =
     let car = vehicleAt vehicles (x .vehicle) in
-    let o = x .outcome in
+    let o = outcomeNumber (x .outcome) in
     record {
       «vehicle_id» = vehicleNumber plan (x .vehicle) 0;
       «profile_id» = vehicleNumber plan (x .vehicle) 4;
-      «charger_id» = cond (plugged o) (chargerId plan (x .charger)) 0;
-      connector = cond (plugged o) (codeOf (connectorOf (rowAt connectors (x .charger)) car)) 0;
-      outcome = outcomeNumber o;
+      «charger_id» = kept (plugged o) (chargerId plan (x .charger));
+      connector = kept (plugged o) (codeOf (connectorOf (rowAt connectors (x .charger)) car));
+      outcome = o;
       arrival = car .arrival;
-      plugin = cond (plugged o) (x .plugin) 0;
-      unplug = cond (charged o) (x .unplug) 0;
+      plugin = kept (plugged o) (x .plugin);
+      unplug = kept (charged o) (x .unplug);
       wait = x .wait;
-      duration = record { 0 = kept (charged o) (x .duration .0) };
-      idle = record { 0 = kept (plugged o) (car .idle .0) };
-      peak = record { 0 = kept (charged o) (x .peak .0) };
-      energy = record { 0 = kept (charged o) (x .energy .0) };
-      start = car .start;
-      end = kept (plugged o) (car .target);
+      duration = kept (charged o) (bits (x .duration .0));
+      idle = kept (plugged o) (bits (car .idle .0));
+      peak = kept (charged o) (bits (x .peak .0));
+      energy = kept (charged o) (bits (x .energy .0));
+      start = bits (car .start);
+      end = kept (plugged o) (bits (car .target));
     }
 
 -- the sessions of the book of a plan
@@ -83,7 +82,6 @@ hasId id x = eqb id (x .«vehicle_id»)
 
 -- what stands in a session's place where there is none: its bytes are zero
 unfoldable pub noSession : BookSession
-unfolding ratio
 noSession =
     record {
       «vehicle_id» = 0;
@@ -95,10 +93,28 @@ noSession =
       plugin = 0;
       unplug = 0;
       wait = 0;
-      duration = record { 0 = ratio 0 1 };
-      idle = record { 0 = ratio 0 1 };
-      peak = record { 0 = ratio 0 1 };
-      energy = record { 0 = ratio 0 1 };
-      start = ratio 0 1;
-      end = ratio 0 1;
+      duration = 0;
+      idle = 0;
+      peak = 0;
+      energy = 0;
+      start = 0;
+      end = 0;
     }
+
+-- a session whose fields fit their widths, so that none is cut off
+pub record Fits (x : BookSession) : Type 0 where
+  pub vehicle : x .«vehicle_id» < 2 ^ 32
+  pub profile : x .«profile_id» < 2 ^ 32
+  pub charger : x .«charger_id» < 2 ^ 32
+  pub connector : x .connector < 2 ^ 8
+  pub outcome : x .outcome < 2 ^ 8
+  pub arrival : x .arrival < 2 ^ 64
+  pub plugin : x .plugin < 2 ^ 64
+  pub unplug : x .unplug < 2 ^ 64
+  pub wait : x .wait < 2 ^ 64
+  pub duration : x .duration < 2 ^ 64
+  pub idle : x .idle < 2 ^ 64
+  pub peak : x .peak < 2 ^ 64
+  pub energy : x .energy < 2 ^ 64
+  pub start : x .start < 2 ^ 64
+  pub end : x .end < 2 ^ 64

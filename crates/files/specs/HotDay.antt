@@ -7,7 +7,7 @@ use Rattle.charger.specs.Lists.{All}
 use Rattle.engine.specs.Plan.{VehiclePlace, ChargerPlace, fits, output}
 use Rattle.engine.specs.HotDay.{HotDay}
 use Rattle.files.specs.Read.{readPlan}
-use Rattle.files.specs.BookSession.{vehicleNumber, chargerId}
+use Rattle.files.specs.BookSession.{bits, vehicleNumber, chargerId}
 use Rattle.files.specs.Book.{sessionsIn}
 use Rattle.files.specs.Demand.{OfRun}
 use Rattle.files.specs.declared.book_session.BookSession.{BookSession}
@@ -23,16 +23,16 @@ HotDayOfPlan plan (Refused x) = Unit {0}
 abbrev pub HotDayOfRun : List ℕ → RunAnswer → Type 0
 HotDayOfRun plan = OfRun (λ t. HotDay (readPlan plan))
 
--- a session of the book: the vehicle and the charger of its ids fit, and its duration, peak and energy are what charging takes there
+-- a session of the book: the vehicle and the charger of its ids fit, and its duration, peak and energy have the bits of what charging takes there
 pub record ByRating (plan : List ℕ) (x : BookSession) : Type 0 where
   pub vehicle : VehiclePlace
   pub charger : ChargerPlace
   pub vehicle-id : x .«vehicle_id» ≡ vehicleNumber plan vehicle 0
   pub charger-id : x .«charger_id» ≡ chargerId plan charger
   pub pair : fits (readPlan plan) vehicle charger ≡ true
-  pub duration : x .duration ≡ output (readPlan plan) vehicle charger .duration
-  pub peak : x .peak ≡ output (readPlan plan) vehicle charger .peak
-  pub energy : x .energy ≡ output (readPlan plan) vehicle charger .energy
+  pub duration : x .duration ≡ bits (output (readPlan plan) vehicle charger .duration .0)
+  pub peak : x .peak ≡ bits (output (readPlan plan) vehicle charger .peak .0)
+  pub energy : x .energy ≡ bits (output (readPlan plan) vehicle charger .energy .0)
 
 -- by events every session of outcome 1 in the book is such a one
 abbrev pub BookByRating : List ℕ → ℕ → List ℕ → RunAnswer → Type 0

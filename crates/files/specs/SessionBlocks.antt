@@ -1,17 +1,11 @@
 -- Rules. Blocks of sessions, five 96-byte sessions a block, from any place of a file on.
 use Prim.Native.Nat.{ℕ, zero, suc, _+_, _*_, _/_, _%_}
 use mathlib.Core.List.{List, [], _∷_, _++_}
-use lib.Ieee.{Float, binary64, toBits}
 use lib.ListN.{length, getD, drop}
 use Rattle.plan.specs.Bytes.{leAt, bytes, fields, pieces}
 use Rattle.plan.specs.Blocks.{sealed}
-use Rattle.plan.specs.Fields.{f64At}
 use Rattle.files.specs.declared.book_session.BookSession.{BookSession}
 use Rattle.files.specs.BookSession.{noSession}
-
--- an f64 by its bits
-abbrev bits : Float → ℕ
-bits x = toBits binary64 x
 
 -- a session's 96 bytes: widths and values, from byte 0 on; bytes 14 and 15 are unnamed
 unfoldable pub sessionBytes : BookSession → List ℕ
@@ -19,8 +13,8 @@ sessionBytes x =
     fields
     (4 ∷ x .«vehicle_id» ∷ 4 ∷ x .«profile_id» ∷ 4 ∷ x .«charger_id» ∷ 1 ∷ x .connector ∷ 1 ∷ x .outcome ∷ 2 ∷ 0
     ∷ 8 ∷ x .arrival ∷ 8 ∷ x .plugin ∷ 8 ∷ x .unplug ∷ 8 ∷ x .wait
-    ∷ 8 ∷ bits (x .duration .0) ∷ 8 ∷ bits (x .idle .0) ∷ 8 ∷ bits (x .peak .0) ∷ 8 ∷ bits (x .energy .0)
-    ∷ 8 ∷ bits (x .start) ∷ 8 ∷ bits (x .end) ∷ [])
+    ∷ 8 ∷ x .duration ∷ 8 ∷ x .idle ∷ 8 ∷ x .peak ∷ 8 ∷ x .energy
+    ∷ 8 ∷ x .start ∷ 8 ∷ x .end ∷ [])
 
 -- the bytes of the session at the index k, zero past the last one
 unfoldable pub slot : List BookSession → ℕ → List ℕ
@@ -53,12 +47,12 @@ sessionOf b =
       plugin = leAt 8 b 24;
       unplug = leAt 8 b 32;
       wait = leAt 8 b 40;
-      duration = record { 0 = f64At b 48 };
-      idle = record { 0 = f64At b 56 };
-      peak = record { 0 = f64At b 64 };
-      energy = record { 0 = f64At b 72 };
-      start = f64At b 80;
-      end = f64At b 88;
+      duration = leAt 8 b 48;
+      idle = leAt 8 b 56;
+      peak = leAt 8 b 64;
+      energy = leAt 8 b 72;
+      start = leAt 8 b 80;
+      end = leAt 8 b 88;
     }
 
 -- m sessions of such a file, those from the index k on

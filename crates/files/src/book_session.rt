@@ -3,9 +3,7 @@ use charger::connector::Common;
 use charger::vehicle::Vehicle;
 use charger::vehicle::connector_of;
 use charger::vehicle_list::VehicleList;
-use curve::units::Kw;
-use curve::units::Kwh;
-use curve::units::Seconds;
+use curve::float::to_bits;
 use engine::session::Outcome;
 use engine::session::Session;
 use engine::session::Sessions;
@@ -16,7 +14,6 @@ use plan::places::block_of;
 use plan::places::charger_count;
 use plan::places::vehicle_count;
 ghost use mathlib.Core.Path.{_≡_};
-ghost use mathlib.Core.Bool.{cond};
 ghost use mathlib.Core.List.{map};
 ghost use Prim.Native.Nat.{_+_, _≤_};
 ghost use lib.ListN.{take};
@@ -26,10 +23,10 @@ ghost use Rattle.engine.specs.Code.Simulation.{booked};
 ghost use Rattle.plan.specs.Places.{chargerCount};
 ghost use Rattle.files.specs.Code.Reading.{Counted};
 ghost use Rattle.engine.specs.Demand.{outcomeNumber};
-ghost use Rattle.files.specs.BookSession.{plugged as BookSession·plugged, charged as BookSession·charged, kept as BookSession·kept, codeOf, vehicleNumber, chargerId, entry as BookSession·entry, noSession};
+ghost use Rattle.files.specs.BookSession.{plugged as BookSession·plugged, charged as BookSession·charged, kept as BookSession·kept, bits, codeOf, vehicleNumber, chargerId, entry as BookSession·entry, noSession};
 ghost use Rattle.files.specs.Code.Writing.{emptyFrom, FitBelow};
 
-// A session as the book holds it; what is missing by its outcome is 0.
+// A session as the book holds it, floats by their bits; what is missing by its outcome is 0.
 pub struct BookSession {
     pub vehicle_id: u32,
     pub profile_id: u32,
@@ -40,12 +37,12 @@ pub struct BookSession {
     pub plugin: u64,
     pub unplug: u64,
     pub wait: u64,
-    pub duration: Seconds,
-    pub idle: Seconds,
-    pub peak: Kw,
-    pub energy: Kwh,
-    pub start: f64,
-    pub end: f64,
+    pub duration: u64,
+    pub idle: u64,
+    pub peak: u64,
+    pub energy: u64,
+    pub start: u64,
+    pub end: u64,
 }
 
 // The paper's number of an outcome.
@@ -60,42 +57,32 @@ pub fn outcome_number(outcome: Outcome) -> u8
     }
 }
 
-// The session has a charger.
-fn plugged(outcome: Outcome) -> bool
+// A session of that outcome's number has a charger.
+pub fn plugged(outcome: u8) -> bool
     ensures { λ r. ⌜ r ≡ BookSession·plugged outcome ⌝ }
 {
-    match outcome {
-        Outcome::Open => true,
-        Outcome::Charged => true,
-        Outcome::Reneged => false,
-        Outcome::Balked => false,
-    }
+    outcome <= 1
 }
 
-// The session has its unplug time and its charging output.
-fn charged(outcome: Outcome) -> bool
+// It has its unplug time and its charging output.
+pub fn charged(outcome: u8) -> bool
     ensures { λ r. ⌜ r ≡ BookSession·charged outcome ⌝ }
 {
-    match outcome {
-        Outcome::Open => false,
-        Outcome::Charged => true,
-        Outcome::Reneged => false,
-        Outcome::Balked => false,
-    }
+    outcome == 1
 }
 
 // A number, 0 where it is missing.
-fn kept_number(there: bool, x: u64) -> u64
-    ensures { λ r. ⌜ r ≡ cond there x 0 ⌝ }
+fn kept(there: bool, x: u64) -> u64
+    ensures { λ r. ⌜ r ≡ BookSession·kept there x ⌝ }
 {
     if there { x } else { 0 }
 }
 
-// A float, 0 where it is missing.
-fn kept(there: bool, x: f64) -> f64
-    ensures { λ r. ⌜ r ≡ BookSession·kept there x ⌝ }
+// The bits of a float, 0 where it is missing.
+fn kept_bits(there: bool, x: f64) -> u64
+    ensures { λ r. ⌜ r ≡ BookSession·kept there (bits x) ⌝ }
 {
-    if there { x } else { 0.0 }
+    if there { to_bits(x) } else { 0 }
 }
 
 // A number of a vehicle's block: its id at 0, its profile's id at 4.
@@ -112,7 +99,7 @@ fn vehicle_number(plan: &[u8], v: usize, at: usize) -> u32
 // The id of the charger that the session has.
 fn charger_id(plan: &[u8], there: bool, c: usize) -> u32
     requires { ⌜ Counted (now plan) ⌝ }
-    ensures { λ r. ⌜ r ≡ cond there (chargerId (now (plan .entry)) c) 0 ⌝ }
+    ensures { λ r. ⌜ r ≡ BookSession·kept there (chargerId (now (plan .entry)) c) ⌝ }
 {
     if !there {
         return 0;
@@ -125,7 +112,7 @@ fn charger_id(plan: &[u8], there: bool, c: usize) -> u32
 
 // The code of the connector that the session has.
 fn connector_code(there: bool, row: [bool; 5], vehicle: Vehicle) -> u8
-    ensures { λ r. ⌜ r ≡ cond there (codeOf (connectorOf row vehicle)) 0 ⌝ }
+    ensures { λ r. ⌜ r ≡ BookSession·kept there (codeOf (connectorOf row vehicle)) ⌝ }
 {
     if !there {
         return 0;
@@ -141,7 +128,8 @@ fn entry(plan: &[u8], vehicles: VehicleList, rows: [[bool; 5]; 32], x: Session) 
     requires { ⌜ Counted (now plan) ⌝ }
     ensures { λ r. ⌜ r ≡ BookSession·entry (now (plan .entry)) (listed vehicles) (take (chargerCount (now (plan .entry))) rows) x ⌝ }
 {
-    let outcome = x.outcome;
+    let came_to = x.outcome;
+    let outcome = outcome_number(came_to);
     let there = plugged(outcome);
     let done = charged(outcome);
     let vehicle = vehicles.get_vehicle(x.vehicle);
@@ -151,21 +139,21 @@ fn entry(plan: &[u8], vehicles: VehicleList, rows: [[bool; 5]; 32], x: Session) 
         profile_id: vehicle_number(plan, x.vehicle, 4),
         charger_id: charger_id(plan, there, x.charger),
         connector: connector_code(there, row, vehicle),
-        outcome: outcome_number(outcome),
+        outcome: outcome,
         arrival: vehicle.arrival,
-        plugin: kept_number(there, x.plugin),
-        unplug: kept_number(done, x.unplug),
+        plugin: kept(there, x.plugin),
+        unplug: kept(done, x.unplug),
         wait: x.wait,
-        duration: Seconds(kept(done, x.duration.0)),
-        idle: Seconds(kept(there, vehicle.idle.0)),
-        peak: Kw(kept(done, x.peak.0)),
-        energy: Kwh(kept(done, x.energy.0)),
-        start: vehicle.start,
-        end: kept(there, vehicle.target),
+        duration: kept_bits(done, x.duration.0),
+        idle: kept_bits(there, vehicle.idle.0),
+        peak: kept_bits(done, x.peak.0),
+        energy: kept_bits(done, x.energy.0),
+        start: to_bits(vehicle.start),
+        end: kept_bits(there, vehicle.target),
     }
 }
 
-fn no_session() -> BookSession
+pub fn no_session() -> BookSession
     ensures { λ r. ⌜ r ≡ noSession ⌝ }
 {
     BookSession {
@@ -178,12 +166,12 @@ fn no_session() -> BookSession
         plugin: 0,
         unplug: 0,
         wait: 0,
-        duration: Seconds(0.0),
-        idle: Seconds(0.0),
-        peak: Kw(0.0),
-        energy: Kwh(0.0),
-        start: 0.0,
-        end: 0.0,
+        duration: 0,
+        idle: 0,
+        peak: 0,
+        energy: 0,
+        start: 0,
+        end: 0,
     }
 }
 

@@ -1,6 +1,5 @@
 // Blocks of sessions, five a block, from any place of a file on.
 use crate::book_session::BookSession;
-use curve::float::to_bits;
 use plan::blocks::seal;
 use plan::bytes::put;
 use plan::bytes::put_fields;
@@ -19,12 +18,6 @@ fn put_session(s: &mut [u8], at: usize, x: BookSession)
     requires { ⌜ at + 96 ≤ length (now s) ⌝ }
     ensures { λ _. ⌜ now (s .exit) ≡ sets (now (s .entry)) at (sessionBytes x) ⌝ }
 {
-    let duration = to_bits(x.duration.0);
-    let idle = to_bits(x.idle.0);
-    let peak = to_bits(x.peak.0);
-    let energy = to_bits(x.energy.0);
-    let start = to_bits(x.start);
-    let end = to_bits(x.end);
     let f: [u64; 32] = [
         4,
         x.vehicle_id as u64,
@@ -47,17 +40,17 @@ fn put_session(s: &mut [u8], at: usize, x: BookSession)
         8,
         x.wait,
         8,
-        duration,
+        x.duration,
         8,
-        idle,
+        x.idle,
         8,
-        peak,
+        x.peak,
         8,
-        energy,
+        x.energy,
         8,
-        start,
+        x.start,
         8,
-        end,
+        x.end,
     ];
     put_fields(s, at, &f);
 }

@@ -119,6 +119,12 @@ every-at f k (suc m) h j a b =
       | inr q ↦ every-at f (suc k) m (both .1) j q (omega arith)
     ]
 
+-- and where each one has it, every index has
+pub every-of : (f : ℕ → Bool) (k m : ℕ) → ((j : ℕ) → k ≤ j → j < k + m → f j ≡ true) → every f k m ≡ true
+unfolding every
+every-of f k zero h = refl
+every-of f k (suc m) h = rw (h k (omega arith) (omega arith), every-of f (suc k) m (λ j a b. h j (omega arith) (omega arith)))
+
 -- two properties that agree at each index
 pub every-same : (f g : ℕ → Bool) (k m : ℕ) → ((j : ℕ) → k ≤ j → j < k + m → f j ≡ g j) → every f k m ≡ every g k m
 unfolding every

@@ -6,7 +6,7 @@ use Rattle.charger.specs.Lists.{tick}
 use Rattle.plan.specs.declared.answer.Rule.{Rule}
 use Rattle.plan.specs.declared.answer.Rule.the-variants.{Length, Check, Header, Field, NoPoint, EqualSoc, UsedId, NoProfile}
 use Rattle.plan.specs.declared.answer.Refusal.{Refusal}
-use Rattle.plan.specs.declared.answer.Refusal.the-variants.{EngineAbove, AllowanceAbove, BookUnder, Broken, CannotCharge, DumpUnder, OtherDump}
+use Rattle.plan.specs.declared.answer.Refusal.the-variants.{EngineAbove, AllowanceAbove, BookUnder, Broken, CannotCharge, DumpUnder, OtherDump, BookDamaged, BookAgainstRules}
 use Rattle.plan.specs.declared.answer.Answer.{Answer}
 use Rattle.plan.specs.declared.answer.Answer.the-variants.{Fine, Refused}
 use Rattle.plan.specs.declared.answer.RunAnswer.{RunAnswer}
@@ -32,6 +32,8 @@ number (Broken r k) = ruleNumber r
 number (CannotCharge v c) = 12
 number DumpUnder = 13
 number OtherDump = 14
+number BookDamaged = 15
+number BookAgainstRules = 16
 
 abbrev pub place : Refusal → ℕ
 place EngineAbove = 0
@@ -41,6 +43,8 @@ place (Broken r k) = k
 place (CannotCharge v c) = v
 place DumpUnder = 0
 place OtherDump = 0
+place BookDamaged = 0
+place BookAgainstRules = 0
 
 abbrev pub otherPlace : Refusal → ℕ
 otherPlace EngineAbove = 0
@@ -50,6 +54,8 @@ otherPlace (Broken r k) = 0
 otherPlace (CannotCharge v c) = c
 otherPlace DumpUnder = 0
 otherPlace OtherDump = 0
+otherPlace BookDamaged = 0
+otherPlace BookAgainstRules = 0
 
 -- ---- the eleven numbers of each answer: number, places, units used, ended, the six counts
 

@@ -1,8 +1,8 @@
 -- Rules. A block of a plan, a book or a dump: 512 bytes, the last four of them its check.
-use Prim.Native.Nat.{ℕ, zero, suc, _+_, _*_, _%_, _^_}
+use Prim.Native.Nat.{ℕ, zero, suc, _+_, _*_, _/_, _%_, _^_}
 use mathlib.Core.List.{List, _++_}
-use mathlib.Core.Bool.{Bool}
-use lib.Dec.{eqb}
+use mathlib.Core.Bool.{Bool, _&&_}
+use lib.Dec.{leb, ltb, eqb}
 use lib.ListN.{take, drop}
 use Rattle.plan.specs.Bytes.{leAt, bytes}
 
@@ -26,3 +26,7 @@ passes place b = eqb (leAt 4 b 508) (checkOf place b)
 -- the block at the index k, counted from 0
 unfoldable pub block : List ℕ → ℕ → List ℕ
 block file k = take 512 (drop (512 * k) file)
+
+-- a file of n bytes: not 0 of them, a multiple of 512, and not above `most` blocks
+unfoldable pub wholeBlocks : ℕ → ℕ → Bool
+wholeBlocks n most = ltb 0 n && eqb (n % 512) 0 && leb (n / 512) most

@@ -1,12 +1,12 @@
 -- Rules. What a check of a plan's blocks answers: the table's rows 4 to 11.
-use Prim.Native.Nat.{ℕ, _+_, _-_, _*_, _/_, _%_}
+use Prim.Native.Nat.{ℕ, _+_, _-_, _*_, _/_}
 use mathlib.Core.Bool.{Bool, false, cond, not, _&&_}
 use mathlib.Core.List.{List, [], _∷_}
 use lib.Dec.{leb, ltb, eqb}
 use lib.Ieee.{eq}
 use lib.ListN.{length}
 use Rattle.plan.specs.Bytes.{leAt}
-use Rattle.plan.specs.Blocks.{passes, block}
+use Rattle.plan.specs.Blocks.{passes, block, wholeBlocks}
 use Rattle.plan.specs.Search.{firstIndex, every, holds}
 use Rattle.plan.specs.Fields.{f64At, lettersOk, headerTests, pointCount, profileTests, chargerTests, vehicleTests}
 use Rattle.plan.specs.Places.{profileCount, chargerCount, vehicleCount, kindAt, startOf, isProfile, isVehicle}
@@ -29,10 +29,6 @@ unfoldable pub withId : List ℕ → ℕ → ℕ → ℕ → ℕ
 withId plan from to id = firstIndex (λ j. eqb (idAt plan j) id) from (to - from)
 
 -- ---- the table
-
--- 4: plan is 0 bytes, not a multiple of 512, or above 113 blocks
-unfoldable pub lengthOk : ℕ → Bool
-lengthOk n = ltb 0 n && eqb (n % 512) 0 && leb n (113 * 512)
 
 -- the header's letters and counts, for a plan of so many blocks
 abbrev pub countTests : List ℕ → ℕ → List Bool
@@ -86,6 +82,6 @@ firstRefusal (r ∷ rs) plan n =
     let next : Answer = firstRefusal rs plan n in
     cond (ltb k n) (Refused (Broken r (k + 1))) next
 
--- what a check of the blocks answers
+-- what a check of the blocks answers; 4: plan is 0 bytes, not a multiple of 512, or above 113 blocks
 unfoldable pub checkBlocks : List ℕ → Answer
-checkBlocks plan = cond (lengthOk (length plan)) (firstRefusal rules plan (length plan / 512)) (Refused (Broken Length 0))
+checkBlocks plan = cond (wholeBlocks (length plan) 113) (firstRefusal rules plan (length plan / 512)) (Refused (Broken Length 0))

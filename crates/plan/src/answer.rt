@@ -17,7 +17,8 @@ pub enum Rule {
 }
 
 // Why a call is refused, in number order: the engine, the allowance, a book that is too short; a rule refuses a block, by its
-// place in the file; a vehicle's block and a charger's cannot charge; a dump that is too short, or not one of the plan.
+// place in the file; a vehicle's block and a charger's cannot charge; a dump that is too short, or not one of the plan; a book
+// whose blocks are damaged, or that is against the rules.
 pub enum Refusal {
     EngineAbove,
     AllowanceAbove,
@@ -26,6 +27,8 @@ pub enum Refusal {
     CannotCharge(usize, usize),
     DumpUnder,
     OtherDump,
+    BookDamaged,
+    BookAgainstRules,
 }
 
 // What a check answers.
@@ -80,6 +83,8 @@ pub fn number(refusal: Refusal) -> u64
         Refusal::CannotCharge(_, _) => 12,
         Refusal::DumpUnder => 13,
         Refusal::OtherDump => 14,
+        Refusal::BookDamaged => 15,
+        Refusal::BookAgainstRules => 16,
     }
 }
 
@@ -95,6 +100,8 @@ pub fn place(refusal: Refusal) -> usize
         Refusal::CannotCharge(v, _) => v,
         Refusal::DumpUnder => 0,
         Refusal::OtherDump => 0,
+        Refusal::BookDamaged => 0,
+        Refusal::BookAgainstRules => 0,
     }
 }
 
@@ -110,6 +117,8 @@ pub fn other_place(refusal: Refusal) -> usize
         Refusal::CannotCharge(_, c) => c,
         Refusal::DumpUnder => 0,
         Refusal::OtherDump => 0,
+        Refusal::BookDamaged => 0,
+        Refusal::BookAgainstRules => 0,
     }
 }
 

@@ -2,11 +2,11 @@
 use crate::bytes::put;
 use crate::bytes::u32_at;
 ghost use mathlib.Core.Path.{_≡_};
-ghost use Prim.Native.Nat.{_+_, _*_, _≤_};
+ghost use Prim.Native.Nat.{_+_, _*_, _≤_, _<_};
 ghost use lib.ListN.{length, take, drop};
 ghost use lib.Seq.{sets};
 ghost use Rattle.plan.specs.Bytes.{bytes};
-ghost use Rattle.plan.specs.Blocks.{checkOf, block as Blocks·block};
+ghost use Rattle.plan.specs.Blocks.{checkOf, passes as Blocks·passes, block as Blocks·block, wholeBlocks};
 
 // The check of the block b, the place-th of its file.
 pub fn check_of(b: &[u8], place: u32) -> u32
@@ -38,4 +38,21 @@ pub fn block(file: &[u8], k: usize) -> &[u8]
 {
     let at = 512 * k;
     &file[at..at + 512]
+}
+
+// The block at the index k of a file has the check of its place.
+pub fn passes(file: &[u8], k: usize) -> bool
+    requires { ⌜ (512 * k + 512 ≤ length (now file)) × (k < 65536) ⌝ }
+    ensures { λ r. ⌜ r ≡ Blocks·passes (k + 1) (Blocks·block (now (file .entry)) k) ⌝ }
+{
+    let b = block(file, k);
+    let sum = check_of(b, k as u32 + 1);
+    u32_at(b, 508) == sum
+}
+
+// n bytes are whole blocks, at least one and no more than `most`.
+pub fn whole_blocks(n: usize, most: usize) -> bool
+    ensures { λ r. ⌜ r ≡ wholeBlocks n most ⌝ }
+{
+    (0 < n) & (n % 512 == 0) & (n / 512 <= most)
 }

@@ -44,7 +44,8 @@ fn bytes_in(b: &[u8], from: usize, to: usize, lo: u8, hi: u8) -> bool
     ok
 }
 
-fn zeros(b: &[u8], from: usize, to: usize) -> bool
+// Each of these bytes is zero.
+pub fn zeros(b: &[u8], from: usize, to: usize) -> bool
     requires { ⌜ to ≤ length (now b) ⌝ }
     ensures { λ r. ⌜ r ≡ Fields·zeros (now (b .entry)) from to ⌝ }
 {

@@ -3,7 +3,8 @@ use crate::answer::Answer;
 use crate::answer::Refusal;
 use crate::answer::Rule;
 use crate::blocks::block;
-use crate::blocks::check_of;
+use crate::blocks::passes;
+use crate::blocks::whole_blocks;
 use crate::bytes::u32_at;
 use crate::fields::charger_ok;
 use crate::fields::f64_at;
@@ -23,27 +24,15 @@ use crate::places::profile_count;
 use crate::places::start_of;
 use crate::places::vehicle_count;
 ghost use mathlib.Core.Path.{_≡_};
-ghost use mathlib.Core.Bool.{not};
 ghost use Prim.Native.Nat.{_+_, _*_, _≤_, _<_};
 ghost use lib.ListN.{length, getD, take};
-ghost use Rattle.plan.specs.Blocks.{passes, block as Blocks·block};
 ghost use Rattle.plan.specs.Search.{firstIndex, every, holds, each};
 ghost use Rattle.plan.specs.Fields.{f64At};
 ghost use Rattle.plan.specs.Plan.{countTests, fieldTests, newSoc, broken as Plan·broken, rules, firstRefusal, checkBlocks};
 ghost use Rattle.plan.specs.Code.Socs.{newAmong};
 
-// 113 blocks: a header, 16 profiles, 32 chargers and 64 vehicles.
-const LONGEST: usize = 57_856;
-
-// 5: the block at the index k has not the check of its place.
-fn wrong_check(plan: &[u8], k: usize) -> bool
-    requires { ⌜ (512 * k + 512 ≤ length (now plan)) × (length (now plan) ≤ 57856) ⌝ }
-    ensures { λ r. ⌜ r ≡ not (passes (k + 1) (Blocks·block (now (plan .entry)) k)) ⌝ }
-{
-    let b = block(plan, k);
-    let sum = check_of(b, k as u32 + 1);
-    !(u32_at(b, 508) == sum)
-}
+// A header, 16 profiles, 32 chargers and 64 vehicles.
+const MOST_BLOCKS: usize = 113;
 
 // 6: the header's letters and counts.
 fn counts_ok(b: &[u8], blocks: usize) -> bool
@@ -150,7 +139,7 @@ fn broken(plan: &[u8], rule: Rule, k: usize) -> bool
     let kind = kind_at(plan, k);
     match rule {
         Rule::Length => false,
-        Rule::Check => wrong_check(plan, k),
+        Rule::Check => !passes(plan, k),
         Rule::Header => (k == 0) & !counts_ok(block(plan, 0), plan.len() / 512),
         Rule::Field => !fields_ok(kind, b),
         Rule::NoPoint => is_profile(kind) & (point_count(b) == 0),
@@ -213,7 +202,7 @@ pub fn check_blocks(plan: &[u8]) -> Answer
     ensures { λ r. ⌜ r ≡ checkBlocks (now (plan .entry)) ⌝ }
 {
     let n = plan.len();
-    if (0 < n) & (n % 512 == 0) & (n <= LONGEST) {
+    if whole_blocks(n, MOST_BLOCKS) {
         return first_refusal(plan, n / 512);
     }
     Answer::Refused(Refusal::Broken(Rule::Length, 0))

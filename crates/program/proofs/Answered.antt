@@ -13,7 +13,7 @@ use Rattle.files.specs.Book.{sessionCount, written}
 use Rattle.files.specs.Demand.{ReadsBack}
 use Rattle.plan.specs.declared.answer.Rule.the-variants.{Length, Check, Header, Field, NoPoint, EqualSoc, UsedId, NoProfile}
 use Rattle.plan.specs.declared.answer.Refusal.{Refusal}
-use Rattle.plan.specs.declared.answer.Refusal.the-variants.{EngineAbove, AllowanceAbove, BookUnder, Broken, CannotCharge, DumpUnder, OtherDump}
+use Rattle.plan.specs.declared.answer.Refusal.the-variants.{EngineAbove, AllowanceAbove, BookUnder, Broken, CannotCharge, DumpUnder, OtherDump, BookDamaged, BookAgainstRules}
 use Rattle.plan.specs.declared.answer.RunAnswer.{RunAnswer}
 use Rattle.plan.specs.declared.answer.RunAnswer.the-variants.{Refused, Stopped}
 use Rattle.files.proofs.ReadBack.{length-book}
@@ -44,6 +44,8 @@ refused (Broken NoProfile k) e = omega arith
 refused (CannotCharge v c) e = omega arith
 refused DumpUnder e = omega arith
 refused OtherDump e = omega arith
+refused BookDamaged e = omega arith
+refused BookAgainstRules e = omega arith
 
 module _ (plan : List ℕ) (engine n : ℕ) (out out′ : List ℕ) where
   -- number 0: the book stands in the buffer, and its header tells its length
@@ -55,7 +57,7 @@ module _ (plan : List ℕ) (engine n : ℕ) (out out′ : List ℕ) where
 
   -- any other: the buffer is as it was, and the line is what is left to write
   pub refusal : (r : RunAnswer) → out′ ≡ bookAfter plan engine n r out → (getD (numbers r) 0 0 ≡ 0 → ⊥)
-      → (out′ ≡ out) × (line (numbers r) ≡ outputOf plan engine n r)
+      → (out′ ≡ out) × (line (take 3 (numbers r)) ≡ outputOf plan engine n r)
   unfolding outputOf
   refusal (Refused x) e z = (e, rw (ne-eqb (number x) 0 z))
   refusal (Stopped t) e z = absurd (z refl)

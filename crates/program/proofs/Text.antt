@@ -1,24 +1,19 @@
--- Laws of text: bytes stored one by one, and a number's decimal digits. Assumes nothing.
+-- Laws of text: a number in decimal digits, stored. Assumes nothing.
 use mathlib.Core.Path.{_≡_, refl, sym, _∙_, ap}
+use mathlib.Core.Bool.{Bool, true, false, cond}
 use mathlib.Core.List.{List, [], _∷_, _++_}
-use Prim.Native.Nat.{ℕ, zero, suc, _+_, _-_, _/_, _^_, _≤_, _<_}
-use native.Mathlib.Nat.{zero-add, pow-suc, one-le-pow, pow-le-pow-right}
+use Prim.Native.Nat.{ℕ, zero, suc, _+_, _-_, _*_, _/_, _^_, _≤_, _<_}
+use native.Mathlib.Nat.{zero-add, add-zero, pow-suc, one-le-pow, pow-le-pow-right}
 use native.Mathlib.Numerals.{add-one}
 use native.Mathlib.Omega.{arith, by-contra}
-use lib.ListN.{length, getD, take, drop, set, length-append}
-use lib.Seq.{sets, sets-eq, drop-cons}
-use borrow.Author.Tests.{lt-ltb, le-ltb}
+use lib.Dec.{ltb}
+use lib.ListN.{length, getD, take, drop, set, length-append, drop-of-length-le}
+use lib.Seq.{sets, sets-eq, drop-cons, drop-nil}
+use borrow.Author.Tests.{lt-ltb, le-ltb, ltb-true, ltb-false}
 use Rattle.io.specs.Digits.{digits, Fewest}
 use Rattle.files.specs.Book.{written}
 use Rattle.plan.proofs.bytes.Laws.{sets-append}
-use Rattle.program.specs.Output.{placesOf, decimal, line}
-
--- one byte more of a run of stores
-pub store-step : (out t bytes : List ℕ) (at i : ℕ) → i < length bytes → sets out (at + i) (drop i bytes) ≡ t
-    → sets (set out (at + i) (getD bytes i 0)) (at + (i + 1)) (drop (i + 1) bytes) ≡ t
-store-step out t bytes at i h e =
-    let q : at + (i + 1) ≡ suc (at + i) = omega arith in
-    rw (q, add-one) (rw (drop-cons bytes i 0 h) at e)
+use Rattle.program.specs.Output.{placesOf, decimal, behind, line}
 
 -- the fewest digits that hold n are as many as the definition says
 pub fewest : (k more n : ℕ) → k ≤ suc more → Fewest 10 1 n k → k ≡ placesOf more n
@@ -66,22 +61,54 @@ stored-first : (out text : List ℕ) → length text ≤ length out → sets out
 unfolding written
 stored-first out text h = rw zero-add at (sets-eq text out 0 (omega arith))
 
--- a number and the byte behind it, stored at a place, and the place behind them
-pub record Part (out out′ : List ℕ) (at n b next : ℕ) : Type 0 where
-  pub bounded : next ≤ at + 21
-  pub place : next ≡ at + length (decimal n ++ (b ∷ []))
-  pub stored : out′ ≡ sets out at (decimal n ++ (b ∷ []))
+-- ---- a line of numbers, stored one by one
 
--- a refusal's line, stored part by part
-pub stored-line : (numbers out p q r : List ℕ) (first second third : ℕ) → 63 ≤ length out
-    → Part out p 0 (getD numbers 0 0) 32 first → Part p q first (getD numbers 1 0) 32 second → Part q r second (getD numbers 2 0) 10 third
-    → (third ≡ length (line numbers)) × (r ≡ written (line numbers) out)
+behind-drop : (numbers : List ℕ) (i : ℕ) → behind (drop i numbers) ≡ cond (ltb i (length numbers)) 32 10
+behind-drop [] i = rw (drop-nil, le-ltb i 0 (omega arith))
+behind-drop (n ∷ rest) zero = rw (lt-ltb 0 (suc (length rest)) (omega arith))
+behind-drop (n ∷ rest) (suc i) = behind-drop rest i ∙ same (ltb i (length rest)) refl
+  where
+    same : (t : Bool) → ltb i (length rest) ≡ t → _≡_ {A = ℕ} (cond t 32 10) (cond (ltb (suc i) (suc (length rest))) 32 10)
+    same true e = rw (lt-ltb (suc i) (suc (length rest)) (omega (arith, ltb-true i (length rest) e)))
+    same false e = rw (le-ltb (suc i) (suc (length rest)) (omega (arith, ltb-false i (length rest) e)))
+
+-- the number at the index i, with what stands behind it
+abbrev pub word : List ℕ → ℕ → List ℕ
+word numbers i = decimal (getD numbers i 0) ++ (cond (ltb (i + 1) (length numbers)) 32 10 ∷ [])
+
+line-drop : (numbers : List ℕ) (i : ℕ) → i < length numbers → line (drop i numbers) ≡ word numbers i ++ line (drop (i + 1) numbers)
 unfolding line
-stored-line numbers out p q r first second third h x y z =
-    let a : List ℕ = decimal (getD numbers 0 0) ++ (32 ∷ []) in
-    let b : List ℕ = decimal (getD numbers 1 0) ++ (32 ∷ []) in
-    let c : List ℕ = decimal (getD numbers 2 0) ++ (10 ∷ []) in
-    let long : length (a ++ (b ++ c)) ≡ third = omega (arith, length-append a (b ++ c), length-append b c, x .place, y .place, z .place) in
-    let at-first : 0 + length a ≡ first = omega (arith, x .place) in
-    let at-second : first + length b ≡ second = omega (arith, y .place) in
-    (sym long, rw (← stored-first out (a ++ (b ++ c)) (omega (arith, x .bounded, y .bounded, z .bounded)), sets-append out 0 a (b ++ c), at-first, ← x .stored, sets-append p first b c, at-second, ← y .stored) (z .stored))
+line-drop numbers i h = rw (drop-cons numbers i 0 h, behind-drop numbers (suc i), add-one)
+
+-- what is stored and where, with the numbers from the index i on still to come
+pub record LineLeft (numbers out₀ out : List ℕ) (at i : ℕ) : Type 0 where
+  pub inside : i ≤ length numbers
+  pub room : length out ≡ length out₀
+  pub few : at ≤ 21 * i
+  pub place : at + length (line (drop i numbers)) ≡ length (line numbers)
+  pub stored : sets out at (line (drop i numbers)) ≡ sets out₀ 0 (line numbers)
+
+pub line-start : (numbers out : List ℕ) → LineLeft numbers out out 0 0
+line-start numbers out = record { inside = omega arith; room = refl; few = omega arith; place = rw zero-add; stored = refl }
+
+pub line-step : (numbers out₀ out out′ : List ℕ) (at i next : ℕ) → i < length numbers → length out′ ≡ length out → next ≤ at + 21
+    → next ≡ at + length (word numbers i) → out′ ≡ sets out at (word numbers i) → LineLeft numbers out₀ out at i → LineLeft numbers out₀ out′ next (i + 1)
+line-step numbers out₀ out out′ at i next h l b p s k =
+    let parts = line-drop numbers i h in
+    let long = length-append (word numbers i) (line (drop (i + 1) numbers)) in
+    record {
+      inside = omega arith;
+      room = omega (arith, k .room);
+      few = omega (arith, k .few);
+      place = omega (arith, k .place, ap length parts);
+      stored = rw (p, s) (rw (parts, sets-append) at (k .stored));
+    }
+
+pub line-end : (numbers out₀ out : List ℕ) (at i : ℕ) → length numbers ≤ i → 21 * length numbers ≤ length out₀ → LineLeft numbers out₀ out at i
+    → (at ≡ length (line numbers)) × (out ≡ written (line numbers) out₀)
+unfolding line
+line-end numbers out₀ out at i h r k =
+    let none : drop i numbers ≡ [] = drop-of-length-le numbers {i = i} h in
+    let place : at ≡ length (line numbers) = sym (add-zero at) ∙ rw none at (k .place) in
+    let stored : out ≡ sets out₀ 0 (line numbers) = rw none at (k .stored) in
+    (place, stored ∙ stored-first out₀ (line numbers) (omega (arith, k .few, k .inside, place)))

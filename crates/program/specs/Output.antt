@@ -3,7 +3,7 @@ use Prim.Native.Nat.{ℕ, zero, suc, _/_}
 use mathlib.Core.Bool.{cond}
 use mathlib.Core.List.{List, [], _∷_, _++_}
 use lib.Dec.{eqb, ltb}
-use lib.ListN.{getD, drop}
+use lib.ListN.{getD, take, drop}
 use Rattle.io.specs.Digits.{digits}
 use Rattle.plan.specs.Bytes.{leAt}
 use Rattle.files.specs.Read.{readPlan}
@@ -35,14 +35,20 @@ placesOf (suc more) n =
 unfoldable pub decimal : ℕ → List ℕ
 decimal n = digits 10 (placesOf 20 n) n
 
--- a refusal's line: the number and both places, with single spaces and a newline
-unfoldable pub line : List ℕ → List ℕ
-line numbers = (decimal (getD numbers 0 0) ++ (32 ∷ [])) ++ ((decimal (getD numbers 1 0) ++ (32 ∷ [])) ++ (decimal (getD numbers 2 0) ++ (10 ∷ [])))
+-- a newline behind the last number of a line, a space behind any other
+abbrev pub behind : List ℕ → ℕ
+behind [] = 10
+behind (m ∷ rest) = 32
 
--- number 0 is success: the book's blocks are written, and the line of any other number
+-- numbers in decimal, with single spaces and a newline
+unfoldable pub line : List ℕ → List ℕ
+line [] = []
+line (n ∷ rest) = (decimal n ++ (behind rest ∷ [])) ++ line rest
+
+-- number 0 is success: the book's blocks are written; any other: the number and both places
 unfoldable pub outputOf : List ℕ → ℕ → ℕ → RunAnswer → List ℕ
 outputOf plan engine allowance r =
-    cond (eqb (getD (numbers r) 0 0) 0) (bookOf plan engine (stopOf (readPlan plan) engine allowance)) (line (numbers r))
+    cond (eqb (getD (numbers r) 0 0) 0) (bookOf plan engine (stopOf (readPlan plan) engine allowance)) (line (take 3 (numbers r)))
 
 -- what the program writes; its buffer has room for the longest book
 unfoldable pub output : List ℕ → List ℕ

@@ -2,8 +2,10 @@
 use files::call::run;
 use plan::answer::run_numbers;
 ghost use mathlib.Core.Path.{_≡_};
+ghost use mathlib.Core.Bool.{cond};
 ghost use mathlib.Core.List.{[], _∷_, _++_};
 ghost use Prim.Native.Nat.{_+_, _*_, _/_, _≤_, _<_};
+ghost use lib.Dec.{ltb};
 ghost use lib.ListN.{length, take};
 ghost use lib.Seq.{sets};
 ghost use Rattle.io.specs.Counts.{Counts};
@@ -69,15 +71,28 @@ fn put_decimal(out: &mut [u8], at: usize, n: u64, last: u8) -> usize
     at + k + 1
 }
 
-// Stores a refusal's line, number and places, into out, and gives its length.
-fn put_line(out: &mut [u8], numbers: [u64; 11]) -> usize
-    requires { ⌜ 63 ≤ length (now out) ⌝ }
-    ensures length { λ r. ⌜ r ≡ length (line numbers) ⌝ }
-    ensures stored { λ r. ⌜ now (out .exit) ≡ written (line numbers) (now (out .entry)) ⌝ }
+// What stands behind the number at the index i of n: a space, or a newline behind the last.
+fn byte_behind(i: usize, n: usize) -> u8
+    requires { ⌜ i < n ⌝ }
+    ensures { λ r. ⌜ r ≡ cond (ltb (i + 1) n) 32 10 ⌝ }
 {
-    let first = put_decimal(out, 0, numbers[0], b' ');
-    let second = put_decimal(out, first, numbers[1], b' ');
-    put_decimal(out, second, numbers[2], b'\n')
+    if i + 1 < n { b' ' } else { b'\n' }
+}
+
+// Stores numbers as a line into out, and gives its length.
+pub fn put_line(out: &mut [u8], numbers: &[u64]) -> usize
+    requires { ⌜ 21 * length (now numbers) ≤ length (now out) ⌝ }
+    ensures length { λ r. ⌜ r ≡ length (line (now (numbers .entry))) ⌝ }
+    ensures stored { λ r. ⌜ now (out .exit) ≡ written (line (now (numbers .entry))) (now (out .entry)) ⌝ }
+{
+    let n = numbers.len();
+    let mut at = 0;
+    let mut i = 0;
+    while i < n {
+        at = put_decimal(out, at, numbers[i], byte_behind(i, n));
+        i += 1;
+    }
+    at
 }
 
 // Runs the input's plan. The first bytes of out, as many as the answer says, are the program's output; the others stay.
@@ -92,5 +107,5 @@ pub fn reply(input: &[u8], out: &mut [u8; 7168]) -> usize
     if numbers[0] == 0 {
         return book_length(out);
     }
-    put_line(out, numbers)
+    put_line(out, &numbers[..3])
 }

@@ -1,5 +1,6 @@
-// A record of calls for a program that replays them: numbers, and changes to the program's buffers. What lies past its end counts as zero.
-ghost use Prim.Native.Nat.{_<_};
+// A record of calls for a program that replays them: numbers, and changes to the program's buffers; what lies past its end counts as zero. And
+// what the program writes of a call.
+ghost use Prim.Native.Nat.{_≤_, _<_};
 
 fn byte_value(x: u8) -> usize
     ensures { λ r. ⌜ r < 256 ⌝ }
@@ -68,4 +69,34 @@ pub fn change(buffer: &mut [u8], recorded: &[u8], at: usize) -> usize {
         i += 1;
     }
     k
+}
+
+// `n`, or `most` where that is less.
+pub fn at_most(n: usize, most: usize) -> usize
+    ensures { λ r. ⌜ r ≤ most ⌝ }
+{
+    if n < most { n } else { most }
+}
+
+fn doubled(x: u64) -> u64 {
+    std::num::wrapping_add_u64(x, x)
+}
+
+// A digest that goes by every number and by their order, with one number more: 31 times the one so far, and the number.
+pub fn mixed(sum: u64, x: u64) -> u64 {
+    let times32 = doubled(doubled(doubled(doubled(doubled(sum)))));
+    std::num::wrapping_add_u64(std::num::wrapping_sub_u64(times32, sum), x)
+}
+
+// The numbers of a call and the digests of its two buffers, eight bytes each.
+pub fn answer_bytes(numbers: [u64; 11], first: u64, second: u64) -> [u8; 104] {
+    let mut out = [0u8; 104];
+    let mut i: usize = 0;
+    while i < 11 {
+        plan::bytes::put(&mut out, 8 * i, 8, numbers[i]);
+        i += 1;
+    }
+    plan::bytes::put(&mut out, 88, 8, first);
+    plan::bytes::put(&mut out, 96, 8, second);
+    out
 }

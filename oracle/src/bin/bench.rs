@@ -1,13 +1,12 @@
 //! Times the original and the product on the same inputs, by call, in one process.
-use oracle::Numbers;
 use oracle::arguments::{Words, stop};
-use oracle::bay::brief;
+use oracle::bay::{bay, brief};
 use oracle::book::LEAST_BOOK;
 use oracle::draft::{Car, Draft, charger, profile};
 use oracle::draw::Draw;
 use oracle::dump::LEAST_DUMP;
-use oracle::generate;
-use oracle::sides::{OTHER, other_check, other_dump, other_resume, other_run};
+use oracle::sides::{OTHER, other_check, other_dump, other_read_book, other_resume, other_run};
+use oracle::{Header, Numbers, Sessions, generate, program};
 use std::hint::black_box;
 
 const REPETITIONS: usize = 15;
@@ -30,6 +29,8 @@ enum Call {
     Dump(u32),
     /// From the dump after so many events to the end.
     Continue(u32),
+    /// The book of the run by events.
+    ReadBook,
 }
 
 enum Per {
@@ -42,11 +43,18 @@ struct Side {
     run: fn(&[u8], u32, u32, &mut [u8]) -> Numbers,
     dump: fn(&[u8], u32, u32, &mut [u8], &mut [u8]) -> Numbers,
     resume: fn(&[u8], &[u8], u32, &mut [u8]) -> Numbers,
+    read_book: fn(&[u8], &mut Header, &mut Sessions) -> Numbers,
 }
 
 const SIDES: [Side; 2] = [
-    Side { check: oracle::check, run: oracle::run, dump: oracle::dump, resume: oracle::resume },
-    Side { check: other_check, run: other_run, dump: other_dump, resume: other_resume },
+    Side {
+        check: oracle::check,
+        run: oracle::run,
+        dump: oracle::dump,
+        resume: oracle::resume,
+        read_book: oracle::read_book,
+    },
+    Side { check: other_check, run: other_run, dump: other_dump, resume: other_resume, read_book: other_read_book },
 ];
 const MOST: u32 = 10_000_000;
 
@@ -84,22 +92,41 @@ fn shown(work: &Work, nanoseconds: f64) -> String {
     }
 }
 
-/// Nanoseconds of each repetition, the two sides in alternating order.
-fn measure(work: &Work) -> [Vec<f64>; 2] {
-    let mut book = vec![0; LEAST_BOOK];
-    let mut dump = vec![0; LEAST_DUMP];
-    if let Call::Continue(handled) = work.call {
-        oracle::dump(&work.plan, 0, handled, &mut book, &mut dump);
+/// What is lent to a call beside its plan.
+struct Lent {
+    book: Vec<u8>,
+    dump: Vec<u8>,
+    header: Header,
+    sessions: Sessions,
+}
+
+impl Lent {
+    fn to(work: &Work) -> Self {
+        let (mut book, mut dump) = (vec![0; LEAST_BOOK], vec![0; LEAST_DUMP]);
+        match work.call {
+            Call::Continue(handled) => drop(oracle::dump(&work.plan, 0, handled, &mut book, &mut dump)),
+            Call::ReadBook => book = program::output(&program::input(0, MOST, &work.plan)).0,
+            _ => {}
+        }
+        Self { book, dump, header: [0; 4], sessions: [0; 1024] }
     }
-    let mut call = |side: usize| {
-        let (side, plan, book) = (&SIDES[side], black_box(&work.plan), black_box(&mut book));
+
+    fn call(&mut self, side: &Side, work: &Work) -> Numbers {
+        let (plan, book) = (black_box(&work.plan), black_box(&mut self.book));
         match work.call {
             Call::Check => (side.check)(plan),
             Call::Run(engine, allowance) => (side.run)(plan, engine, allowance, book),
-            Call::Dump(allowance) => (side.dump)(plan, 0, allowance, book, black_box(&mut dump)),
-            Call::Continue(_) => (side.resume)(plan, black_box(&dump), MOST, book),
+            Call::Dump(allowance) => (side.dump)(plan, 0, allowance, book, black_box(&mut self.dump)),
+            Call::Continue(_) => (side.resume)(plan, black_box(&self.dump), MOST, book),
+            Call::ReadBook => (side.read_book)(book, black_box(&mut self.header), black_box(&mut self.sessions)),
         }
-    };
+    }
+}
+
+/// Nanoseconds of each repetition, the two sides in alternating order.
+fn measure(work: &Work) -> [Vec<f64>; 2] {
+    let mut lent = Lent::to(work);
+    let mut call = |side: usize| lent.call(&SIDES[side], work);
     let answers = [0, 1].map(&mut call);
     assert_eq!(answers[0], answers[1], "{}", work.name);
     assert_eq!(answers[0][0], 0, "{} is refused", work.name);
@@ -180,6 +207,9 @@ fn works() -> Vec<Work> {
     });
     for (name, call) in [("dump after 80 events", Call::Dump(80)), ("continue after 80 events", Call::Continue(80))] {
         works.push(Work { name: format!("{name}: 64 vehicles, 2 chargers"), plan: busy_site(2), call, per: Per::Call });
+    }
+    for (sessions, plan) in [("64 sessions", busy_site(2)), ("one session", bay(&[Car::default()]).bytes())] {
+        works.push(Work { name: format!("read a book of {sessions}"), plan, call: Call::ReadBook, per: Per::Call });
     }
     works.push(Work { name: "check of a largest plan".into(), plan: largest(), call: Call::Check, per: Per::Call });
     works.push(Work {

@@ -5,9 +5,11 @@
 //! `--shape` takes every case of the one shape that it names.
 //! `--count` goes on past differences and says how many cases differ.
 //! `--dumps` compares request 1's calls, dump and continue, at every cut of each case's run by events.
-//! `--sweep` damages a small plan at every byte in place of drawn cases.
+//! `--books` compares request 5's call on books of drawn lists and of runs, and on damaged ones.
+//! `--sweep` damages a small plan, or book, at every byte in place of drawn cases.
 //! `--trace` names each case on standard error before it runs, for a side that may crash or hang.
 use oracle::arguments::Words;
+use oracle::books;
 use oracle::draw::Draw;
 use oracle::generate::{self, Case, SHAPES};
 use oracle::shrink::shrink;
@@ -18,7 +20,7 @@ use std::path::PathBuf;
 use std::process::ExitCode;
 use std::time::Instant;
 
-const USAGE: &str = "compare [--cases N] [--seed S] [--from INDEX] [--shape NAME] [--dumps | --program PATH] [--sweep] [--count] [--trace]";
+const USAGE: &str = "compare [--cases N] [--seed S] [--from INDEX] [--shape NAME] [--dumps | --books | --program PATH] [--sweep] [--count] [--trace]";
 
 struct Options {
     cases: u64,
@@ -27,6 +29,7 @@ struct Options {
     shape: Option<String>,
     program: Option<PathBuf>,
     dumps: bool,
+    books: bool,
     sweep: bool,
     count: bool,
     trace: bool,
@@ -40,6 +43,7 @@ fn options() -> Options {
         shape: None,
         program: None,
         dumps: false,
+        books: false,
         sweep: false,
         count: false,
         trace: false,
@@ -53,14 +57,18 @@ fn options() -> Options {
             "--shape" => options.shape = Some(shape(&mut words)),
             "--program" => options.program = Some(words.needed("PATH").into()),
             "--dumps" => options.dumps = true,
+            "--books" => options.books = true,
             "--sweep" => options.sweep = true,
             "--count" => options.count = true,
             "--trace" => options.trace = true,
             _ => words.wrong(format!("{word} is unknown")),
         }
     }
-    if options.dumps && options.program.is_some() {
-        words.wrong("the program has no dumps");
+    if [options.dumps, options.books, options.program.is_some()].into_iter().filter(|given| *given).count() > 1 {
+        words.wrong("--dumps, --books and --program are compared one at a time");
+    }
+    if options.books && options.shape.is_some() {
+        words.wrong("--books has cases of every shape");
     }
     options
 }
@@ -75,6 +83,9 @@ fn shape(words: &mut Words) -> String {
 
 fn main() -> ExitCode {
     let options = options();
+    if options.books {
+        return compare_books(&options);
+    }
     let started = Instant::now();
     let side = match &options.program {
         Some(path) => Side::Program(path.clone()),
@@ -117,17 +128,48 @@ fn main() -> ExitCode {
         }
         *answers.entry(oracle::check(&case.plan)[0]).or_insert(0) += 1;
     }
-    println!(
-        "{} of {compared} cases alike in {:.1} s; answers of check by number: {}",
-        compared - different,
-        started.elapsed().as_secs_f64(),
-        by_number(&answers)
-    );
+    let mut answers = format!("answers of check by number: {}", by_number(&answers));
     if let Side::Dumps(tally) = &side {
         let tally = tally.borrow();
-        println!("of dump: {}; of continue: {}", by_number(&tally.dumps), by_number(&tally.continued));
+        answers += &format!("\nof dump: {}; of continue: {}", by_number(&tally.dumps), by_number(&tally.continued));
     }
+    summed_up(compared, different, started, &answers)
+}
+
+fn summed_up(compared: u64, different: u64, started: Instant, answers: &str) -> ExitCode {
+    println!(
+        "{} of {compared} cases alike in {:.1} s; {answers}",
+        compared - different,
+        started.elapsed().as_secs_f64()
+    );
     if different == 0 { ExitCode::SUCCESS } else { ExitCode::FAILURE }
+}
+
+/// Request 5, whose cases are no plans.
+fn compare_books(options: &Options) -> ExitCode {
+    let started = Instant::now();
+    println!("the oracle and {OTHER}, seed {}", options.seed);
+    let indices = match options.sweep {
+        true => 0..books::steps(),
+        false => options.from..options.from.saturating_add(options.cases),
+    };
+    let compare = if options.sweep { books::swept } else { books::difference };
+    let mut tally = books::Tally::new();
+    let (mut compared, mut different) = (0, 0);
+    for index in indices {
+        if options.trace {
+            eprintln!("case {index}");
+        }
+        compared += 1;
+        let Some(difference) = compare(options.seed, index, &mut tally) else { continue };
+        different += 1;
+        if !options.count {
+            println!("DIFFERENCE in case {index}: {}\n{}", difference.what, words::describe_book(&difference.book));
+            println!("the book, [n] being n zero bytes:\n{}", words::hex(&difference.book));
+            return ExitCode::FAILURE;
+        }
+    }
+    summed_up(compared, different, started, &format!("answers by number: {}", by_number(&tally)))
 }
 
 fn by_number(answers: &BTreeMap<u64, u64>) -> String {
@@ -189,7 +231,7 @@ fn sweep(seed: u64) -> impl Iterator<Item = Case> {
         };
         let block = at / blocks::BLOCK;
         if way != 7 {
-            blocks::seal(&mut case.plan[block * blocks::BLOCK..(block + 1) * blocks::BLOCK], block + 1);
+            blocks::reseal(&mut case.plan, block);
         }
         case
     })

@@ -1,13 +1,13 @@
 //! Records the oracle's answers for a replay without Rust. The README describes the form.
 use oracle::accounts::Run;
-use oracle::arguments::{Words, stop};
+use oracle::arguments::Words;
 use oracle::bay;
+use oracle::blocks::reseal;
 use oracle::draw::Draw;
 use oracle::generate::{self, Case, SHAPES};
 use oracle::plan::MOST_BLOCKS;
 use oracle::program;
-use oracle::recording::{Reader, record_changes, write};
-use std::path::Path;
+use oracle::recording::{Reader, keep, record_changes};
 
 /// The replaying program's buffer of input, all zero at first and never cleared.
 const BUFFER: usize = 65_536;
@@ -53,8 +53,7 @@ fn main() {
     }
     let recorded = encode(&inputs);
     assert!(decode(&recorded) == inputs, "the record reads back");
-    write(Path::new(&folder), &recorded, &outputs).unwrap_or_else(|error| stop(format!("{folder}: {error}")));
-    println!("{} cases, {} bytes in, {} bytes out", inputs.len(), recorded.len(), outputs.len());
+    keep(&folder, inputs.len(), &recorded, &outputs);
 }
 
 fn inputs(seed: u64) -> Vec<Vec<u8>> {
@@ -108,7 +107,7 @@ fn one_plan_many_ways(draw: &mut Draw) -> Vec<Vec<u8>> {
         for at in (0..60).step_by(3) {
             let mut plan = case.plan.clone();
             plan[512 * block + at] ^= 1 << draw.below(8);
-            oracle::blocks::seal(&mut plan[512 * block..512 * (block + 1)], block + 1);
+            reseal(&mut plan, block);
             inputs.push(program::input((at % 2) as u8, 1_000, &plan));
         }
     }

@@ -1,15 +1,13 @@
 //! Records the oracle's answers of dump and continue for a replay without Rust. The README describes the form.
 use oracle::Numbers;
-use oracle::arguments::{Words, stop};
 use oracle::bay::{bay, brief};
-use oracle::blocks::{BLOCK, put, seal};
+use oracle::blocks::{BLOCK, put, reseal};
 use oracle::book::LEAST_BOOK;
 use oracle::draft::{Car, profile};
 use oracle::draw::Draw;
 use oracle::dump::{LEAST_DUMP, length};
 use oracle::generate;
-use oracle::recording::{Reader, record_changes, write};
-use std::path::Path;
+use oracle::recording::{Reader, digest, folder_and_seed, keep, record_changes};
 
 /// The replaying program's buffers of plan, dump and book, all zero at first and never cleared.
 const PLAN: usize = 65_536;
@@ -19,21 +17,14 @@ const BOOK: usize = 7_680;
 const MOST: u32 = 10_000_000;
 
 fn main() {
-    let mut words = Words::of("record_dumps FOLDER [SEED]");
-    let folder = words.needed("FOLDER");
-    if folder.starts_with('-') {
-        words.wrong(format!("{folder} is no folder"));
-    }
-    let seed = words.number_or("SEED", 1);
-    words.end();
+    let (folder, seed) = folder_and_seed("record_dumps FOLDER [SEED]");
     let mut record = Record::default();
     bays(&mut record);
     drawn(&mut record, &mut Draw::new(seed, 0));
     refusals(&mut record);
     let input = [&record.cases.to_le_bytes()[..], &record.input].concat();
     assert!(replayed(&input) == record.output, "the record reads back");
-    write(Path::new(&folder), &input, &record.output).unwrap_or_else(|error| stop(format!("{folder}: {error}")));
-    println!("{} cases, {} bytes in, {} bytes out", record.cases, input.len(), record.output.len());
+    keep(&folder, record.cases as usize, &input, &record.output);
 }
 
 struct Buffers {
@@ -69,14 +60,10 @@ impl Buffers {
             0 => oracle::dump(plan, call.engine, call.units, book, &mut self.dump[..call.dump]),
             _ => oracle::resume(plan, &self.dump[..call.dump], call.units, book),
         };
-        let words = numbers.into_iter().chain([digest(&self.book), digest(&self.dump)]);
+        let digests = [&self.book, &self.dump].map(|bytes| digest(bytes.iter().map(|byte| u64::from(*byte))));
+        let words = numbers.into_iter().chain(digests);
         (numbers, words.flat_map(u64::to_le_bytes).collect())
     }
-}
-
-/// A number that goes by every byte and by their order: 31 times the one so far, and the byte.
-fn digest(bytes: &[u8]) -> u64 {
-    bytes.iter().fold(0, |sum: u64, byte| sum.wrapping_mul(31).wrapping_add(u64::from(*byte)))
 }
 
 #[derive(Default)]
@@ -177,13 +164,13 @@ fn refusals(record: &mut Record) {
         let mut wrong = dump.clone();
         wrong[at] ^= 1;
         record.changed(&plan, &wrong, 14);
-        seal(&mut wrong[at / BLOCK * BLOCK..][..BLOCK], at / BLOCK + 1);
+        reseal(&mut wrong, at / BLOCK);
         record.changed(&plan, &wrong, if at == 508 { 0 } else { 14 });
     }
     for count in [0, 2, 4, (1 << 32) + 1, 1 << 63, u64::MAX] {
         let mut wrong = dump.clone();
         put(&mut wrong, 16, &count.to_le_bytes());
-        seal(&mut wrong[..BLOCK], 1);
+        reseal(&mut wrong, 0);
         record.changed(&plan, &wrong, 14);
     }
     record.changed(&plan, &[&dump[..], &[0xa5; 700]].concat(), 0);

@@ -1,6 +1,6 @@
 //! Calls that are refused, for one thing or for the first of several.
 use super::{Bench, Call, Found, MOST};
-use crate::blocks::{BLOCK, seal};
+use crate::blocks::{BLOCK, reseal};
 use crate::book::LEAST_BOOK;
 use crate::dump::LEAST_DUMP;
 use crate::generate::Case;
@@ -76,7 +76,7 @@ impl Bench<'_> {
         match self.draw.below(4) {
             0 => {}
             1 => plan.truncate(plan.len() - 1),
-            _ => seal(&mut plan[block * BLOCK..(block + 1) * BLOCK], block + 1),
+            _ => reseal(&mut plan, block),
         }
         plan
     }

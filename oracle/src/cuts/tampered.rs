@@ -1,6 +1,6 @@
 //! Bytes that are not the plan's dump, or not it alone.
 use super::{Bench, Call, Found};
-use crate::blocks::{BLOCK, CHECK, put, put_f64, seal, u32_at, u64_at};
+use crate::blocks::{BLOCK, CHECK, put, put_f64, reseal, u32_at, u64_at};
 use crate::draft::Draft;
 use crate::dump::USED;
 use std::fmt::Display;
@@ -142,8 +142,4 @@ impl Bench<'_> {
         }
         draft.bytes()
     }
-}
-
-fn reseal(dump: &mut [u8], block: usize) {
-    seal(&mut dump[block * BLOCK..(block + 1) * BLOCK], block + 1);
 }

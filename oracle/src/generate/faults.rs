@@ -1,7 +1,7 @@
 //! Plans and calls that are refused: fields at and past their limits, faults of each number, damage.
 use super::site::{Clock, FEW, Style, draft};
 use super::{Case, call};
-use crate::blocks::{BLOCK, put, put_f64, seal, seal_all, u32_at};
+use crate::blocks::{BLOCK, put, put_f64, reseal, seal_all, u32_at};
 use crate::book::LEAST_BOOK;
 use crate::draft::{Draft, points, set_points};
 use crate::draw::Draw;
@@ -246,7 +246,7 @@ fn header_count_fault(draw: &mut Draw, plan: &mut [u8]) {
         1 => put(plan, draw.pick(&[4, 6, 8]), &draw.pick(&[17u16, 33, 65, 256, u16::MAX, 0]).to_le_bytes()),
         _ => plan[draw.pick(&[4, 6, 8])] ^= 1,
     }
-    seal(&mut plan[..BLOCK], 1);
+    reseal(plan, 0);
 }
 
 pub fn damaged(draw: &mut Draw) -> Case {
@@ -258,7 +258,7 @@ pub fn damaged(draw: &mut Draw) -> Case {
         let at = block * BLOCK + within;
         plan[at] = if draw.one_in(2) { plan[at] ^ (1 << draw.below(8)) } else { draw.number() as u8 };
         if !draw.one_in(5) {
-            seal(&mut plan[block * BLOCK..(block + 1) * BLOCK], block + 1);
+            reseal(&mut plan, block);
         }
     }
     call(draw, plan, Clock::Day)

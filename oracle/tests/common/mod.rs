@@ -1,7 +1,8 @@
 //! The bay of document 01's worked cases, and short ways to run it.
-#![allow(dead_code)]
+#![allow(dead_code, unused_imports)]
 use oracle::Numbers;
 pub use oracle::bay::{bay, brief};
+use oracle::blocks::{BLOCK, put};
 use oracle::book::{self, Entry, LEAST_BOOK};
 use oracle::draft::Draft;
 
@@ -54,4 +55,34 @@ pub fn checked(plan: &[u8]) -> [u64; 3] {
     let numbers = oracle::check(plan);
     assert!(numbers[3..].iter().all(|number| *number == 0));
     numbers[..3].try_into().unwrap()
+}
+
+/// A block of zero bytes but for these fields and its check.
+pub fn block(fields: &[(usize, &[u8])], check: u32) -> Vec<u8> {
+    let mut block = vec![0; BLOCK];
+    for (at, bytes) in fields {
+        put(&mut block, *at, bytes);
+    }
+    put(&mut block, 508, &check.to_le_bytes());
+    block
+}
+
+/// M1's session: car, profile and charger 1, NACS, charged; 100 to 2,020, 1,800 s, 120 s, 50 kW, 25 kWh, 0.25 to 0.75.
+pub fn m1_session(check: u32) -> Vec<u8> {
+    let fields: [(usize, &[u8]); 13] = [
+        (0, &[1]),
+        (4, &[1]),
+        (8, &[1]),
+        (12, &[5, 1]),
+        (16, &[100]),
+        (24, &[100]),
+        (32, &[0xe4, 0x07]),
+        (53, &[0x20, 0x9c, 0x40]),
+        (62, &[0x5e, 0x40]),
+        (70, &[0x49, 0x40]),
+        (78, &[0x39, 0x40]),
+        (86, &[0xd0, 0x3f]),
+        (94, &[0xe8, 0x3f]),
+    ];
+    block(&fields, check)
 }

@@ -41,6 +41,7 @@ module _ (p : Plan) where
   lawful =
       record {
         vehicle = λ now v c. refl;
+        charger = λ now v c. refl;
         occupied = λ now v c i. refl;
         arrivals = λ test now v c es. count-push (arrives test) (unplug (now + stay p v c) v c) es ∙ zero-add _;
       }

@@ -103,6 +103,7 @@ spotsIn test f = spots test (f .pending) (f .queue) (f .sessions)
 -- what an engine's own parts must meet
 pub record Lawful {A : Type 0} (g : Engine A) : Type 0 where
   pub vehicle : (now v c : ℕ) → g .session now v c .vehicle ≡ v
+  pub charger : (now v c : ℕ) → g .session now v c .charger ≡ c
   pub occupied : (now v c i : ℕ) → g .isFree (g .occupant now v c i) ≡ false
   pub arrivals : (test : ℕ → Bool) (now v c : ℕ) (es : List Event) → count (arrives test) (g .pend now v c es) ≡ count (arrives test) es
 
@@ -149,7 +150,7 @@ module _ (p : Plan) {A : Type 0} (g : Engine A) where
     spots-moved test f (misses e es l k) = omega (arith, gone test f e es Renege l k)
     spots-moved test f (unplugs e es l k) = omega (arith, gone test f e es Unplug l k)
     spots-moved test f (frees c a) = refl
-    spots-moved test f (passes now c q v r x) =
+    spots-moved test f (passes now c q v r x a) =
         simp (count-append, law .vehicle, law .arrivals) (omega (arith, ap (count test) x, count-append test q (v ∷ r)))
     spots-moved test f (progresses w) = rw (w .pending, w .queue, w .vehicles)
 
@@ -184,7 +185,7 @@ module _ (p : Plan) {A : Type 0} (g : Engine A) where
     settled-moved f (unplugs e es l k) t = t
     settled-moved f (frees c a) t =
         all-both (λ v s n i b o. ⊎-elim (λ (x : i ≡ c). rw x n) (s i b) (freed-which (f .places) c i (g .empty) o)) t a
-    settled-moved f (passes now c q v r x) t =
+    settled-moved f (passes now c q v r x a) t =
         all-map (λ w s i b o. s i b (still-free (f .places) c i _ (law .occupied _ _ _ _) (rw set-set at o))) (all-around q v r (rw x at t))
     settled-moved f (progresses w) t = rw (w .queue) (all-map (λ v s i b o. s i b (sym (w .free i) ∙ o)) t)
 
@@ -204,7 +205,7 @@ module _ (p : Plan) {A : Type 0} (g : Engine A) where
   length-moved f (misses e es l k) = refl
   length-moved f (unplugs e es l k) = refl
   length-moved f (frees c a) = length-set (f .places) c _
-  length-moved f (passes now c q v r x) = length-set (set (f .places) c (g .empty)) c _ ∙ length-set (f .places) c _
+  length-moved f (passes now c q v r x a) = length-set (set (f .places) c (g .empty)) c _ ∙ length-set (f .places) c _
   length-moved f (progresses w) = w .size
 
   pub length-places : {h : SiteState A} → Moves p g (initial p g) h → length (h .places) ≡ length (p .chargers)
@@ -222,7 +223,7 @@ module _ (p : Plan) {A : Type 0} (g : Engine A) where
   kept-moved f (misses e es l k) = kept-refl (f .sessions)
   kept-moved f (unplugs e es l k) = kept-refl (f .sessions)
   kept-moved f (frees c a) = kept-refl (f .sessions)
-  kept-moved f (passes now c q v r x) = kept-append (f .sessions) _
+  kept-moved f (passes now c q v r x a) = kept-append (f .sessions) _
   kept-moved f (progresses w) = w .kept
 
   pub kept : (f : SiteState A) {h : SiteState A} → Moves p g f h → Kept (f .sessions) (h .sessions)

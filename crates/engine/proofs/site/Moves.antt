@@ -8,13 +8,18 @@ use lib.ListN.{length}
 use Rattle.charger.specs.First.{Found}
 use Rattle.charger.specs.Lists.{count, All}
 use Rattle.charger.proofs.Lists.{Searched, missed, met, searched}
-use Rattle.engine.specs.Demand.{has, Kept}
+use Rattle.engine.specs.Demand.{has, hasCharger, Kept}
 use Rattle.engine.specs.declared.events.Event.{Event}
 use Rattle.engine.specs.declared.events.EventType.{EventType}
 use Rattle.engine.specs.declared.events.EventType.the-variants.{Arrival, Renege, Unplug}
+use Rattle.engine.specs.declared.session.Session.{Session}
 use Rattle.engine.specs.declared.session.Outcome.the-variants.{Reneged, Balked}
 use Rattle.engine.specs.Plan.{Plan, fits}
 use Rattle.engine.specs.SiteState.{Engine, SiteState, below, uncharged, withQueue, withSession, withPending, turnedAway, balks as balksAt, freed, startCharging, freeAt, available, arrived, reneged, passedOn, release, handle, popped}
+
+-- a session that has a charger is of a pair that fits
+abbrev pub Fitted : Plan → Session → Type 0
+Fitted p x = hasCharger (x .outcome) ≡ true → fits p (x .vehicle) (x .charger) ≡ true
 
 module _ (p : Plan) {A : Type 0} (g : Engine A) where
   -- cars charge and sessions are closed, but everyone stays where they are
@@ -25,6 +30,7 @@ module _ (p : Plan) {A : Type 0} (g : Engine A) where
     pub size : length (h .places) ≡ length (f .places)
     pub vehicles : (test : ℕ → Bool) → count (has test) (h .sessions) ≡ count (has test) (f .sessions)
     pub kept : Kept (f .sessions) (h .sessions)
+    pub fitted : All (Fitted p) (f .sessions) → All (Fitted p) (h .sessions)
 
   pub data Moved (f : SiteState A) : SiteState A → Type 0 where
     charges : (e : Event) (es : List Event) (c : ℕ) → f .pending ≡ e ∷ es → e .kind ≡ Arrival → available p g f (e .vehicle) c ≡ true
@@ -39,7 +45,8 @@ module _ (p : Plan) {A : Type 0} (g : Engine A) where
     misses : (e : Event) (es : List Event) → f .pending ≡ e ∷ es → e .kind ≡ Renege → Moved f (withPending es f)
     unplugs : (e : Event) (es : List Event) → f .pending ≡ e ∷ es → e .kind ≡ Unplug → Moved f (withPending es f)
     frees : (c : ℕ) → All (λ v. fits p v c ≡ false) (f .queue) → Moved f (freed p g c f)
-    passes : (now c : ℕ) (q : List ℕ) (v : ℕ) (r : List ℕ) → f .queue ≡ q ++ (v ∷ r) → Moved f (startCharging p g now v c (withQueue (q ++ r) (freed p g c f)))
+    passes : (now c : ℕ) (q : List ℕ) (v : ℕ) (r : List ℕ) → f .queue ≡ q ++ (v ∷ r) → fits p v c ≡ true
+        → Moved f (startCharging p g now v c (withQueue (q ++ r) (freed p g c f)))
     progresses : {h : SiteState A} → Progress f h → Moved f h
 
   -- several, one after another
@@ -53,7 +60,7 @@ module _ (p : Plan) {A : Type 0} (g : Engine A) where
 
   on-release : (now c : ℕ) (f : SiteState A) {x : Found} → Searched (λ v. fits p v c) (f .queue) x → Moved f (passedOn p g now c f x)
   on-release now c f (missed h) = frees c h
-  on-release now c f (met q v r h a x) = passes now c q v r x
+  on-release now c f (met q v r h a x) = passes now c q v r x a
 
   pub released : (now c : ℕ) (f : SiteState A) → Moved f (release p g now c f)
   released now c f = on-release now c f (searched (λ v. fits p v c) (f .queue))

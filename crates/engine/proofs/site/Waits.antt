@@ -1,18 +1,18 @@
 -- No wait is cut off: every vehicle that takes a charger or reneges arrived at or before that second, in both engines.
 use mathlib.Core.Path.{_≡_, refl, sym, ap, _∙_, subst}
-use mathlib.Core.Bool.{Bool, true, false, cond}
+use mathlib.Core.Bool.{Bool, true, false}
 use mathlib.Core.List.{List, [], _∷_, _++_}
-use Prim.Native.Nat.{ℕ, zero, suc, _+_, _-_, _≤_}
+use Prim.Native.Nat.{ℕ, suc, _+_, _-_, _≤_}
 use native.Mathlib.Nat.{zero-add, add-zero, add-suc, suc-add}
 use native.Mathlib.Omega.{arith}
 use borrow.Author.Tests.{eqb-true}
 use lib.Dec.{eqb}
-use lib.ListN.{length, getD, set}
+use lib.ListN.{length, getD}
 use Rattle.charger.specs.First.{Found, nobody, found, first}
 use Rattle.charger.specs.Lists.{All, none, also}
 use Rattle.charger.specs.declared.vehicle.Vehicle.{Vehicle}
 use Rattle.charger.specs.Vehicle.{noVehicle}
-use Rattle.charger.proofs.Lists.{all-append, all-map, all-around, all-right, all-head, all-tail, all-at, Searched, missed, met, searched}
+use Rattle.charger.proofs.Lists.{all-append, all-map, all-around, all-right, all-head, all-tail, Searched, missed, met, searched}
 use Rattle.engine.specs.declared.events.Event.{Event}
 use Rattle.engine.specs.declared.events.EventType.{EventType}
 use Rattle.engine.specs.declared.events.EventType.the-variants.{Arrival, Renege, Unplug}
@@ -22,15 +22,14 @@ use Rattle.engine.specs.declared.session.Outcome.the-variants.{Open}
 use Rattle.engine.specs.Plan.{Plan, vehicle, fits, stay}
 use Rattle.engine.specs.Events.{arrival, unplug, push, Ordered, least, generate}
 use Rattle.power.specs.declared.charger_state.ChargerState.{ChargerState}
-use Rattle.power.specs.ChargerState.{isFinished}
 use Rattle.engine.specs.SiteState.{SiteState, initial, below, startCharging, uncharged, balks as balksAt, withPending, turnedAway, available, arrived, reneged, passedOn, release, handle, popped}
 use Rattle.engine.specs.Discrete.{State, chargedSession, run}
-use Rattle.engine.specs.Timestep.{steps, openSession, finalized, closed, finished, due, withClosed, releaseAll}
+use Rattle.engine.specs.Timestep.{steps, openSession, finalized, finished, due, withClosed, releaseAll}
 use Rattle.engine.specs.Timestep as T
 use Rattle.engine.specs.Demand.{WaitedBy, Waited}
 use Rattle.engine.proofs.discrete.Stepped.{Stepped, stepped, ended, charges, balks, waits, frees, passes, reneges, misses}
 use Rattle.engine.proofs.discrete.EventLaws.{every-run}
-use Rattle.engine.proofs.timestep.Held.{missing, Holds, HeldFrom, close, held-tail, held-head, held-close, from-start, held-charged}
+use Rattle.engine.proofs.timestep.Held.{closed-all, from-start, held-charged}
 use Rattle.engine.proofs.timestep.RunMoves.{Keeps, run-keeps}
 use Rattle.engine.proofs.events.Before.{not-later}
 use Rattle.engine.proofs.events.Order.{all-push}
@@ -142,11 +141,6 @@ pub record KeptBy (p : Plan) (now : ℕ) (f : SiteState ChargerState) : Type 0 w
   pub queued : All (λ v. vehicle p v .arrival ≤ now) (f .queue)
   pub waited : All (Waited p) (f .sessions)
 
-pub all-set : {A : Type 0} {P : A → Type 0} (xs : List A) (i : ℕ) (y : A) → P y → All P xs → All P (set xs i y)
-all-set [] i y h k = none
-all-set (x ∷ xs) zero y h k = also h (all-tail k)
-all-set (x ∷ xs) (suc i) y h k = also (all-head k) (all-set xs i y h (all-tail k))
-
 module _ (p : Plan) (now : ℕ) where
   kept-handled : (e : Event) (es : List Event) (f : SiteState ChargerState) → f .pending ≡ e ∷ es → e .time ≤ now → KeptBy p now f → KeptBy p now (popped p (steps p) e es f)
   unfolding startCharging openSession uncharged
@@ -183,21 +177,6 @@ module _ (p : Plan) (now : ℕ) where
   unfolding finalized
   waited-open x s h w = subst (λ (o : Outcome). WaitedBy o (vehicle p (x .vehicle)) x) h w
 
-  waited-close : (s : ChargerState) (xs : List Session) (c : ℕ) → Holds c s xs → All (Waited p) xs → All (Waited p) (close p now s xs)
-  waited-close s xs c h w = all-set xs (s .session) _ (waited-open (getD xs (s .session) missing) s (h .is-open) (all-at xs (s .session) missing (h .inside) w)) w
-
-  waited-closed : (c : ℕ) (ss : List ChargerState) (xs : List Session) → HeldFrom p c ss xs → All (Waited p) xs → All (Waited p) (closed now ss xs)
-  unfolding HeldFrom
-  waited-closed c [] xs h w = w
-  waited-closed c (s ∷ ss) xs h w =
-      go (isFinished (s .status)) refl (waited-closed (suc c) ss xs (held-tail p c s ss xs h) w)
-      (λ f. waited-closed (suc c) ss (close p now s xs) (held-close p now c s ss xs f h) (waited-close s xs c (held-head p c s ss xs f h) w))
-    where
-      go : (b : Bool) → isFinished (s .status) ≡ b → All (Waited p) (closed now ss xs) → (isFinished (s .status) ≡ true → All (Waited p) (closed now ss (close p now s xs)))
-          → All (Waited p) (closed now ss (cond b (close p now s xs) xs))
-      go true f a k = k f
-      go false f a k = a
-
   kept-passed : (c : ℕ) (f : SiteState ChargerState) → KeptBy p now f → {x : Found} → Searched (λ w. fits p w c) (f .queue) x → KeptBy p now (passedOn p (steps p) now c f x)
   unfolding startCharging openSession
   kept-passed c f k (missed n) = record { dated = k .dated; queued = k .queued; waited = k .waited }
@@ -225,7 +204,11 @@ module _ (p : Plan) where
             let g = T.powered p f in
             kept-later now _
             (kept-released p now (finished 0 (g .places)) (withClosed p now g)
-            (record { dated = k .dated; queued = k .queued; waited = waited-closed p now 0 (g .places) (g .sessions) (from-start p g (held-charged p f h)) (k .waited) }));
+            (record {
+              dated = k .dated;
+              queued = k .queued;
+              waited = closed-all p (Waited p) now 0 (g .places) (g .sessions) (waited-open p now) (from-start p g (held-charged p f h)) (k .waited);
+            }));
       }
 
   pub kept-start : KeptBy p 0 (initial p (steps p))

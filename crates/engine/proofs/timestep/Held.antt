@@ -14,10 +14,11 @@ use Rattle.engine.specs.declared.session.Session.{Session}
 use Rattle.engine.specs.declared.session.Outcome.{Outcome}
 use Rattle.engine.specs.declared.session.Outcome.the-variants.{Open}
 use Rattle.charger.specs.First.{Found, nobody, found, first}
-use Rattle.charger.specs.Lists.{count}
+use Rattle.charger.specs.Lists.{count, All, none, also}
+use Rattle.charger.proofs.Lists.{all-head, all-tail, all-at, by-test}
 use Rattle.engine.proofs.site.Kept.{kept-refl, kept-trans, kept-set}
 use Rattle.engine.specs.Demand.{has, isClosed, Kept}
-use Rattle.engine.proofs.site.Moves.{Progress}
+use Rattle.engine.proofs.site.Moves.{Fitted, Progress}
 use Rattle.engine.specs.Plan.{Plan, fits, vehicle, rated}
 use Rattle.engine.specs.SiteState.{SiteState, uncharged, startCharging, freed, withQueue, withSession, passedOn, release, freeAt, initial}
 use Rattle.power.specs.declared.charger_state.Status.{Status}
@@ -25,7 +26,7 @@ use Rattle.power.specs.declared.charger_state.Status.the-variants.{Free, Chargi
 use Rattle.power.specs.declared.charger_state.ChargerState.{ChargerState}
 use Rattle.power.specs.ChargerState.{isFree, isFinished, empty}
 use Rattle.engine.specs.Timestep.{openSession, plugged, steps, finalized, closed, withClosed, powered, finished, releaseAll}
-use Rattle.power.proofs.power.SameCars.{SameCars, none, also, same-free, same-session, same-size, same-charged}
+use Rattle.power.proofs.power.SameCars.{SameCars, none as no-cars, also as also-car, same-free, same-session, same-size, same-charged}
 
 -- the session that `closed` falls back on
 abbrev pub missing : Session
@@ -80,6 +81,11 @@ at-set : (l : List ChargerState) (c : ℕ) (x : ChargerState) → (getD (set l c
 at-set [] c x = inr refl
 at-set (y ∷ l) zero x = inl refl
 at-set (y ∷ l) (suc c) x = at-set l c x
+
+pub all-set : {A : Type 0} {P : A → Type 0} (xs : List A) (i : ℕ) (y : A) → P y → All P xs → All P (set xs i y)
+all-set [] i y h k = none
+all-set (x ∷ xs) zero y h k = also h (all-tail k)
+all-set (x ∷ xs) (suc i) y h k = also (all-head k) (all-set xs i y h (all-tail k))
 
 module _ (t : Plan) where
   pub held-freed : (c : ℕ) (cs : List ℕ) (f : SiteState ChargerState) → HeldBut (c ∷ cs) f → HeldBut cs (freed t (steps t) c f)
@@ -163,38 +169,40 @@ module _ (t : Plan) where
   held-close now c s ss xs f h j o =
       holds-close now c (suc c + j) s (getD ss j empty) xs (λ e. omega arith) (held-head c s ss xs f h) (held-tail c s ss xs h j o)
 
+  -- Q is kept when the session of a finished charger is closed, if it is one of the states ss, which stand at the places from c on
+  abbrev pub ClosingKeeps : (List Session → Type 0) → ℕ → ℕ → List ChargerState → Type 0
+  ClosingKeeps Q now c ss =
+      (j : ℕ) (xs : List Session) → isFinished (getD ss j empty .status) ≡ true → Holds (c + j) (getD ss j empty) xs → Q xs → Q (close now (getD ss j empty) xs)
+
+  -- so it is kept when the sessions of all finished chargers are
+  pub closed-keeps : (Q : List Session → Type 0) (now c : ℕ) (ss : List ChargerState) (xs : List Session) → ClosingKeeps Q now c ss → HeldFrom c ss xs → Q xs → Q (closed now ss xs)
+  closed-keeps Q now c [] xs k h q = q
+  closed-keeps Q now c (s ∷ ss) xs k h q =
+      let later : ClosingKeeps Q now (suc c) ss = λ j ys f o. k (suc j) ys f (rw (add-suc, ← suc-add) o) in
+      by-test (λ (ys : List Session). Q (closed now ss ys)) (isFinished (s .status))
+      (λ f. closed-keeps Q now (suc c) ss (close now s xs) later (held-close now c s ss xs f h) (k 0 xs f (rw add-zero (held-head c s ss xs f h)) q))
+      (λ f. closed-keeps Q now (suc c) ss xs later (held-tail c s ss xs h) q)
+
+  -- what an open session keeps when it is closed, every session keeps
+  pub closed-all : (P : Session → Type 0) (now c : ℕ) (ss : List ChargerState) (xs : List Session)
+      → ((x : Session) (s : ChargerState) → x .outcome ≡ Open → P x → P (finalized now s x)) → HeldFrom c ss xs → All P xs → All P (closed now ss xs)
+  closed-all P now c ss xs k =
+      closed-keeps (All P) now c ss xs
+      (λ j ys f h a.
+      let s = getD ss j empty in
+      all-set ys (s .session) _ (k (getD ys (s .session) missing) s (h .is-open) (all-at ys (s .session) missing (h .inside) a)) a)
+
   open-not-closed : (o : Outcome) → o ≡ Open → isClosed o ≡ false
   open-not-closed o h = rw h
 
   closed-kept : (now c : ℕ) (ss : List ChargerState) (xs : List Session) → HeldFrom c ss xs → Kept xs (closed now ss xs)
-  unfolding HeldFrom
-  closed-kept now c [] xs h = kept-refl xs
-  closed-kept now c (s ∷ ss) xs h =
-      go (isFinished (s .status)) refl (closed-kept now (suc c) ss xs (held-tail c s ss xs h)) (λ f. closed-kept now (suc c) ss (close now s xs) (held-close now c s ss xs f h))
-    where
-      go : (b : Bool) → isFinished (s .status) ≡ b → Kept xs (closed now ss xs) → (isFinished (s .status) ≡ true → Kept (close now s xs) (closed now ss (close now s xs)))
-          → Kept xs (closed now ss (cond b (close now s xs) xs))
-      go true f a k =
-          kept-trans (kept-set xs (s .session) _ missing (open-not-closed _ (held-head c s ss xs f h .is-open))) (k f)
-      go false f a k = a
+  closed-kept now c ss xs h =
+      closed-keeps (Kept xs) now c ss xs (λ j ys f o k. kept-trans k (kept-set ys _ _ missing (open-not-closed _ (o .is-open)))) h (kept-refl xs)
 
   -- a car that is not finished still holds its session
   closed-holds : (now c i : ℕ) (r : ChargerState) (ss : List ChargerState) (xs : List Session) → HeldFrom c ss xs → Holds i r xs
       → ((j : ℕ) → isFinished (getD ss j empty .status) ≡ true → c + j ≢ i) → Holds i r (closed now ss xs)
-  unfolding HeldFrom
-  closed-holds now c i r [] xs h k ne = k
-  closed-holds now c i r (s ∷ ss) xs h k ne =
-      let apart : (j : ℕ) → isFinished (getD ss j empty .status) ≡ true → suc c + j ≢ i = λ j f e. ne (suc j) f (omega arith) in
-      go (isFinished (s .status)) refl (closed-holds now (suc c) i r ss xs (held-tail c s ss xs h) k apart)
-      (λ f.
-      closed-holds now (suc c) i r ss (close now s xs) (held-close now c s ss xs f h)
-      (holds-close now c i s r xs (λ e. ne 0 f (omega arith)) (held-head c s ss xs f h) k)
-      apart)
-    where
-      go : (b : Bool) → isFinished (s .status) ≡ b → Holds i r (closed now ss xs) → (isFinished (s .status) ≡ true → Holds i r (closed now ss (close now s xs)))
-          → Holds i r (closed now ss (cond b (close now s xs) xs))
-      go true f a k = k f
-      go false f a k = a
+  closed-holds now c i r ss xs h k ne = closed-keeps (Holds i r) now c ss xs (λ j ys f o. holds-close now (c + j) i (getD ss j empty) r ys (ne j f) o) h k
 
   count-close : (test : ℕ → Bool) (xs : List Session) (i now : ℕ) (s : ChargerState) → count (has test) (set xs i (finalized now s (getD xs i missing))) ≡ count (has test) xs
   unfolding finalized
@@ -202,14 +210,9 @@ module _ (t : Plan) where
   count-close test (x ∷ xs) zero now s = refl
   count-close test (x ∷ xs) (suc i) now s = rw (count-close test xs i now s)
 
-  closed-count : (test : ℕ → Bool) (now : ℕ) (ss : List ChargerState) (xs : List Session) → count (has test) (closed now ss xs) ≡ count (has test) xs
-  closed-count test now [] xs = refl
-  closed-count test now (s ∷ ss) xs = go (isFinished (s .status)) (closed-count test now ss xs) (closed-count test now ss (close now s xs))
-    where
-      go : (b : Bool) → count (has test) (closed now ss xs) ≡ count (has test) xs → count (has test) (closed now ss (close now s xs)) ≡ count (has test) (close now s xs)
-          → count (has test) (closed now ss (cond b (close now s xs) xs)) ≡ count (has test) xs
-      go true a k = k ∙ count-close test xs (s .session) now s
-      go false a k = a
+  closed-count : (test : ℕ → Bool) (now c : ℕ) (ss : List ChargerState) (xs : List Session) → HeldFrom c ss xs → count (has test) (closed now ss xs) ≡ count (has test) xs
+  closed-count test now c ss xs h =
+      closed-keeps (λ ys. count (has test) ys ≡ count (has test) xs) now c ss xs (λ j ys f o e. count-close test ys _ now _ ∙ e) h refl
 
   finished-in : (c : ℕ) (ss : List ChargerState) (j : ℕ) → isFinished (getD ss j empty .status) ≡ true → In (c + j) (finished c ss)
   unfolding empty
@@ -225,16 +228,23 @@ module _ (t : Plan) where
   unfolding HeldFrom HeldBut
   from-start f h j o = rw zero-add (⊎-elim (λ (n : ⊥). absurd n) (λ k. k) (h j o))
 
+  -- a session that is closed keeps its vehicle and charger
+  fitted-open : (now : ℕ) (x : Session) (s : ChargerState) → x .outcome ≡ Open → Fitted t x → Fitted t (finalized now s x)
+  unfolding finalized
+  fitted-open now x s o k h = k (rw o)
+
   -- closing the finished sessions
   pub progress-closed : (now : ℕ) (f : SiteState ChargerState) → HeldBut [] f → Progress t (steps t) f (withClosed t now f)
   progress-closed now f h =
+      let held = from-start f h in
       record {
         pending = refl;
         queue = refl;
         free = λ c. refl;
         size = refl;
-        vehicles = λ test. closed-count test now (f .places) (f .sessions);
-        kept = closed-kept now 0 (f .places) (f .sessions) (from-start f h);
+        vehicles = λ test. closed-count test now 0 (f .places) (f .sessions) held;
+        kept = closed-kept now 0 (f .places) (f .sessions) held;
+        fitted = closed-all (Fitted t) now 0 (f .places) (f .sessions) (fitted-open now) held;
       }
 
   pub held-closed : (now : ℕ) (f : SiteState ChargerState) → HeldBut [] f → HeldBut (finished 0 (f .places)) (withClosed t now f)
@@ -255,9 +265,9 @@ module _ (t : Plan) where
   -- ---- power and progress
 
   same-free-at : {ss ss′ : List ChargerState} → SameCars ss ss′ → (c : ℕ) → freeAt t (steps t) ss′ c ≡ freeAt t (steps t) ss c
-  same-free-at none c = refl
-  same-free-at (also s r) zero = s .free
-  same-free-at (also s r) (suc c) = same-free-at r c
+  same-free-at no-cars c = refl
+  same-free-at (also-car s r) zero = s .free
+  same-free-at (also-car s r) (suc c) = same-free-at r c
 
   pub held-charged : (f : SiteState ChargerState) → HeldBut [] f → HeldBut [] (powered t f)
   unfolding HeldBut
@@ -278,6 +288,7 @@ module _ (t : Plan) where
         size = same-size same;
         vehicles = λ test. refl;
         kept = kept-refl (f .sessions);
+        fitted = λ k. k;
       }
 
   -- at the start no car is there

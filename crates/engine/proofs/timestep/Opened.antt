@@ -30,10 +30,10 @@ use Rattle.engine.specs.Demand.{isClosed, hasCharger, pluggedAt, ofOutco
 use Rattle.engine.specs.Demand as D
 use Rattle.engine.proofs.site.Laws.{length-places}
 use Rattle.power.proofs.charger_state.Vacant.{and-left, and-right}
-use Rattle.engine.proofs.timestep.Held.{missing, Holds, HeldBut, HeldFrom, same-or-not, not-both, close, held-tail, held-head, held-close, from-start, held-charged}
+use Rattle.engine.proofs.timestep.Held.{missing, all-set, Holds, HeldBut, HeldFrom, same-or-not, not-both, close, held-tail, held-head, held-close, closed-keeps, from-start, held-charged}
 use Rattle.power.proofs.power.SameCars.{same-free, same-charged}
 use Rattle.engine.proofs.timestep.RunMoves.{Keeps, run-keeps, run-reached}
-use Rattle.engine.proofs.site.Waits.{Dated, dated-at, all-set, KeptBy, keeps, kept-start}
+use Rattle.engine.proofs.site.Waits.{Dated, dated-at, KeptBy, keeps, kept-start}
 
 -- ---- the sessions of a charger
 
@@ -245,13 +245,7 @@ module _ (p : Plan) where
 
   -- the states ss stand at the places from c on, as in `HeldFrom`: the chargers before c stay as they are
   closed-before : {b : Bool} (now c i : ℕ) (ss : List ChargerState) (xs : List Session) → i < c → HeldFrom p c ss xs → Told i b xs → Told i b (closed now ss xs)
-  closed-before now c i [] xs l h k = k
-  closed-before {b} now c i (s ∷ ss) xs l h k =
-      by-test (λ (ys : List Session). Told i b (closed now ss ys)) (isFinished (s .status))
-      (λ f.
-      closed-before now (suc c) i ss (close p now s xs) (omega arith) (held-close p now c s ss xs f h)
-      (closed-there now c s xs (held-head p c s ss xs f h) i (λ e. omega arith) k))
-      (λ f. closed-before now (suc c) i ss xs (omega arith) (held-tail p c s ss xs h) k)
+  closed-before {b} now c i ss xs l = closed-keeps p (Told i b) now c ss xs (λ j ys f o. closed-there now (c + j) (getD ss j empty) ys o i (λ e. omega arith))
 
   -- and of those from c on each that is finished has its session closed
   closed-from : (now c : ℕ) (ss : List ChargerState) (xs : List Session) → HeldFrom p c ss xs → ((j : ℕ) → Told (c + j) (isFree (getD ss j empty .status)) xs)

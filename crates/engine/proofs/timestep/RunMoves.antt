@@ -29,7 +29,7 @@ module _ (t : Plan) where
 
   pub lawful : Lawful (steps t)
   unfolding openSession plugged
-  lawful = record { vehicle = λ now v c. refl; occupied = λ now v c i. refl; arrivals = λ test now v c es. refl }
+  lawful = record { vehicle = λ now v c. refl; charger = λ now v c. refl; occupied = λ now v c i. refl; arrivals = λ test now v c es. refl }
 
   -- ---- the events due
 

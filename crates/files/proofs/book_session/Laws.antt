@@ -7,8 +7,9 @@ use mathlib.Core.Logic.{⊎-elim}
 use native.Mathlib.Omega.{arith}
 use lib.ListN.{length, getD, set, take, replicate}
 use lib.Seq.{getD-set-same, getD-set-other, getD-take, length-take-le}
-use Rattle.files.specs.BookSession.{noSession}
-use Rattle.files.specs.Code.Writing.{emptyFrom, Fits, FitBelow}
+use Rattle.charger.specs.Lists.{All, none, also}
+use Rattle.files.specs.BookSession.{noSession, Fits}
+use Rattle.files.specs.Code.Writing.{emptyFrom, FitBelow}
 use Rattle.files.specs.declared.book_session.BookSession.{BookSession}
 
 pub empty-start : (m : ℕ) (x : BookSession) → x ≡ noSession → emptyFrom 0 (replicate m x)
@@ -38,3 +39,7 @@ first-same zero xs e k = sym (e k (omega arith))
 first-same (suc n) [] e k = refl
 first-same (suc n) (x ∷ xs) e zero = refl
 first-same (suc n) (x ∷ xs) e (suc k) = first-same n xs (λ j h. e (suc j) (omega arith)) k
+
+pub all-fit : (xs : List BookSession) → FitBelow (length xs) xs → All Fits xs
+all-fit [] f = none
+all-fit (x ∷ xs) f = also (f 0 (omega arith)) (all-fit xs (λ k h. f (suc k) (omega arith)))

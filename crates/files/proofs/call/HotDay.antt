@@ -115,9 +115,9 @@ module _ (plan : List ℕ) where
         vehicle-id = refl;
         charger-id = rw o;
         pair = r .pair;
-        duration = rw o (r .duration);
-        peak = rw o (r .peak);
-        energy = rw o (r .energy);
+        duration = rw (o, r .duration);
+        peak = rw (o, r .peak);
+        energy = rw (o, r .energy);
       }
 
   all-rated : {xs : List Session} → All (ChargedAtRating (readPlan plan)) xs → All (λ y. y .outcome ≡ 1 → ByRating plan y) (map (entry plan (vehiclesOf plan) (connectorRows plan)) xs)

@@ -1,22 +1,22 @@
 -- What a plan has whose blocks pass their check. Assumes nothing.
 use mathlib.Core.Path.{_≡_, refl}
-use mathlib.Core.Bool.{Bool, true, false, cond, _&&_}
+use mathlib.Core.Bool.{Bool, true, false, cond}
 use mathlib.Core.List.{List, [], _∷_}
-use Prim.Native.Nat.{ℕ, zero, suc, _+_, _*_, _/_, _%_, _≤_, _<_}
+use Prim.Native.Nat.{ℕ, zero, suc, _+_, _*_, _/_, _≤_, _<_}
 use native.Mathlib.Omega.{arith}
 use borrow.Author.Tests.{ltb-true, ltb-false, leb-true, eqb-true, eqb-false, not-false, lt-leb, le-leb, ne-eqb}
-use lib.Dec.{leb, ltb, eqb}
+use lib.Dec.{ltb, eqb}
 use lib.ListN.{length, getD, take, drop, length-take, length-drop, List·getD-eq-default}
 use lib.Seq.{length-take-le, getD-take, getD-drop}
 use Rattle.charger.specs.Lists.{All}
 use Rattle.engine.specs.Code.Simulation.{InTime}
 use Rattle.plan.specs.Bytes.{leAt}
-use Rattle.plan.specs.Blocks.{sealed, block}
+use Rattle.plan.specs.Blocks.{sealed, block, wholeBlocks}
 use Rattle.plan.specs.Search.{firstIndex, holds}
 use Rattle.plan.specs.Fields.{headerTests, profileTests, chargerTests, vehicleTests}
 use Rattle.plan.specs.Places.{profileCount, chargerCount, vehicleCount, kindAt, profileBlock, chargerBlock, vehicleBlock}
 use Rattle.files.specs.Code.Reading.{Counted}
-use Rattle.plan.specs.Plan.{withId, lengthOk, countTests, fieldTests, broken, rules, firstRefusal, checkBlocks}
+use Rattle.plan.specs.Plan.{withId, countTests, fieldTests, broken, rules, firstRefusal, checkBlocks}
 use Rattle.files.specs.Read.{profileIndex, vehicleOf, vehicleIn, vehiclesOf}
 use Rattle.plan.specs.declared.answer.Rule.{Rule}
 use Rattle.plan.specs.declared.answer.Rule.the-variants.{Length}
@@ -26,8 +26,7 @@ use Rattle.plan.specs.declared.answer.Refusal.the-variants.{Broken}
 use Rattle.plan.specs.declared.answer.Answer.{Answer}
 use Rattle.plan.specs.declared.answer.Answer.the-variants.{Fine, Refused}
 use Rattle.files.proofs.read.Laws.{with-id-from, with-id-to}
-use Rattle.plan.proofs.blocks.Laws.{block-read, passes-sealed}
-use Rattle.charger.proofs.Lists.{and-true}
+use Rattle.plan.proofs.blocks.Laws.{block-read, passes-sealed, whole-blocks}
 use Rattle.plan.proofs.SearchLaws.{holds-at, first-missed, all-each}
 
 -- ---- no rule refuses a block
@@ -75,21 +74,16 @@ length-answer true next e = (refl, e)
 length-answer false next e = absurd (not-fine e)
 
 module _ (plan : List ℕ) (fine : checkBlocks plan ≡ Fine) where
-  whole : (lengthOk (length plan) ≡ true) × (firstRefusal rules plan (length plan / 512) ≡ Fine)
+  whole : (wholeBlocks (length plan) 113 ≡ true) × (firstRefusal rules plan (length plan / 512) ≡ Fine)
   unfolding checkBlocks
-  whole = length-answer (lengthOk (length plan)) (firstRefusal rules plan (length plan / 512)) fine
+  whole = length-answer (wholeBlocks (length plan) 113) (firstRefusal rules plan (length plan / 512)) fine
 
   -- the i-th rule refuses no block
   rule : (i : ℕ) → i < 7 → (k : ℕ) → k < length plan / 512 → broken (getD rules i Length) plan k ≡ false
   rule = no-refusal rules plan (length plan / 512) (whole .1)
 
   some-blocks : (length plan ≡ 512 * (length plan / 512)) × (0 < length plan / 512)
-  unfolding lengthOk
-  some-blocks =
-      let n = length plan in
-      let parts = and-true (ltb 0 n && eqb (n % 512) 0) (leb n (113 * 512)) (whole .0) in
-      let long = and-true (ltb 0 n) (eqb (n % 512) 0) (parts .0) in
-      omega (arith, ltb-true 0 n (long .0), eqb-true (n % 512) 0 (long .1))
+  some-blocks = let w = whole-blocks (length plan) 113 (whole .0) in omega arith
 
   pub counted : Counted plan
   counted =

@@ -1,21 +1,17 @@
 -- Laws of blocks of sessions: as they are stored, and as they are read back from any place of a file on. Assumes nothing.
-use mathlib.Core.Path.{_≡_, refl, sym, _∙_, ap, subst, fun-ext}
+use mathlib.Core.Path.{_≡_, refl, sym, _∙_, fun-ext}
 use mathlib.Core.Bool.{true}
 use mathlib.Core.List.{List, [], _∷_, _++_, append-assoc}
 use Prim.Native.Nat.{ℕ, zero, suc, _+_, _*_, _/_, _%_, _≤_, _<_}
 use native.Mathlib.Nat.{add-assoc, zero-add}
 use native.Mathlib.Omega.{arith}
-use lib.Dec.{T}
-use lib.Ieee.{Float, binary64, fits, ofBits, toBits}
-use lib.Ieee.Bits.{ofBits-toBits, toBits-lt}
 use lib.ListN.{length, getD, take, drop, length-append, drop-of-length-le}
 use lib.Seq.{sets, length-take-le, drop-cons, drop-at, drop-drop}
 use Rattle.charger.proofs.waiting_queue.Part.{getD-any}
 use Rattle.plan.specs.Bytes.{leAt, bytes, fields, pieces}
 use Rattle.plan.specs.Blocks.{checkOf, sealed, passes}
-use Rattle.plan.specs.Fields.{f64At}
-use Rattle.files.specs.BookSession.{noSession}
-use Rattle.files.specs.Code.Writing.{emptyFrom, Fits, FitBelow}
+use Rattle.files.specs.BookSession.{noSession, Fits}
+use Rattle.files.specs.Code.Writing.{emptyFrom, FitBelow}
 use Rattle.files.specs.SessionBlocks.{sessionBytes, slot, sessionBlock, sessionBlocks, sessionOffset, sessionOf, sessionsFrom}
 use Rattle.files.specs.declared.book_session.BookSession.{BookSession}
 use Rattle.plan.proofs.bytes.Laws.{sets-append, length-bytes, length-pieces, read-back, Begins, piece-at}
@@ -72,14 +68,8 @@ module _ (place : ℕ) (xs : List BookSession) where
       let blocks : sessionBlock place (take n xs) ≡ sessionBlock place xs = fun-ext (λ j. rw same) in
       rw (blocks, length-take-le n xs h)
 
--- a float that is written is read back
-float-back : (x : Float) → fits binary64 x ≡ true → f64At (bytes 8 (toBits binary64 x)) 0 ≡ x
-float-back x e =
-    let h : T (fits binary64 x) = subst T (sym e) tt in
-    ap (ofBits binary64) (read-back 8 (toBits binary64 x) (omega (arith, toBits-lt binary64 x h))) ∙ ofBits-toBits binary64 x h
-
 -- a session that is written is read back
-session-back : (x : BookSession) (r : List ℕ) → Fits x → sessionOf (sessionBytes x ++ r) ≡ x
+pub session-back : (x : BookSession) (r : List ℕ) → Fits x → sessionOf (sessionBytes x ++ r) ≡ x
 unfolding sessionOf sessionBytes fields bytes leAt
 session-back x r h = λ i. record {
   «vehicle_id» = read-back 4 (x .«vehicle_id») (omega (arith, h .vehicle)) i;
@@ -91,12 +81,12 @@ session-back x r h = λ i. record {
   plugin = read-back 8 (x .plugin) (omega (arith, h .plugin)) i;
   unplug = read-back 8 (x .unplug) (omega (arith, h .unplug)) i;
   wait = read-back 8 (x .wait) (omega (arith, h .wait)) i;
-  duration = record { 0 = float-back (x .duration .0) (h .duration) i };
-  idle = record { 0 = float-back (x .idle .0) (h .idle) i };
-  peak = record { 0 = float-back (x .peak .0) (h .peak) i };
-  energy = record { 0 = float-back (x .energy .0) (h .energy) i };
-  start = float-back (x .start) (h .start) i;
-  end = float-back (x .end) (h .end) i;
+  duration = read-back 8 (x .duration) (omega (arith, h .duration)) i;
+  idle = read-back 8 (x .idle) (omega (arith, h .idle)) i;
+  peak = read-back 8 (x .peak) (omega (arith, h .peak)) i;
+  energy = read-back 8 (x .energy) (omega (arith, h .energy)) i;
+  start = read-back 8 (x .start) (omega (arith, h .start)) i;
+  end = read-back 8 (x .end) (omega (arith, h .end)) i;
 }
 
 -- a file in which blocks of sessions follow its first bytes

@@ -1,17 +1,37 @@
 -- Laws of a block and its check. Assumes nothing.
-use mathlib.Core.Path.{_≡_, refl, _∙_}
-use mathlib.Core.Bool.{true}
+use mathlib.Core.Path.{_≡_, refl, sym, _∙_}
+use mathlib.Core.Bool.{true, _&&_}
 use mathlib.Core.List.{List, _++_, append-assoc}
-use Prim.Native.Nat.{ℕ, zero, suc, _+_, _*_, _%_, _^_, _<_, _≤_}
-use native.Mathlib.Nat.{add-zero, add-suc}
+use Prim.Native.Nat.{ℕ, zero, suc, _+_, _*_, _/_, _%_, _^_, _<_, _≤_}
+use native.Mathlib.Nat.{add-zero, zero-add, add-suc}
 use native.Mathlib.Numerals.{add-one}
 use native.Mathlib.Omega.{arith}
-use borrow.Author.Tests.{eq-eqb, eqb-true}
+use borrow.Author.Tests.{eq-eqb, eqb-true, ltb-true, leb-true, lt-ltb, le-leb}
+use lib.Dec.{leb, ltb, eqb}
 use lib.ListN.{length, getD, take, drop, length-append, take-append-drop, length-drop}
 use lib.Seq.{sets, length-take-le, take-all, sets-eq, take-at, drop-at, getD-take, getD-drop}
-use Rattle.plan.specs.Bytes.{leAt, bytes}
-use Rattle.plan.specs.Blocks.{words, checkOf, sealed, passes, block}
+use Rattle.plan.specs.Bytes.{leAt, bytes, pieces}
+use Rattle.plan.specs.Blocks.{words, checkOf, sealed, passes, block, wholeBlocks}
+use Rattle.charger.proofs.Lists.{and-true}
 use Rattle.plan.proofs.bytes.Laws.{sets-append, length-bytes, leAt-left, leAt-right, read-back, bytes-leAt}
+use Rattle.plan.proofs.bytes.Apart.{pieces-apart}
+
+-- what whole blocks are
+pub whole-blocks : (n most : ℕ) → wholeBlocks n most ≡ true → (0 < n) × ((n ≡ 512 * (n / 512)) × (n / 512 ≤ most))
+unfolding wholeBlocks
+whole-blocks n most e =
+    let parts = and-true (ltb 0 n && eqb (n % 512) 0) (leb (n / 512) most) e in
+    let long = and-true (ltb 0 n) (eqb (n % 512) 0) (parts .0) in
+    let rest : n % 512 ≡ 0 = eqb-true (n % 512) 0 (long .1) in
+    (ltb-true 0 n (long .0), (omega arith, leb-true (n / 512) most (parts .1)))
+
+-- n blocks are whole
+pub blocks-whole : (n most : ℕ) → 0 < n → n ≤ most → wholeBlocks (512 * n) most ≡ true
+unfolding wholeBlocks
+blocks-whole n most h k =
+    let rest : 512 * n % 512 ≡ 0 = omega arith in
+    let size : 512 * n / 512 ≡ n = omega arith in
+    rw (lt-ltb 0 (512 * n) (omega arith), rest, size) (le-leb n most k)
 
 -- one more word
 pub check-step : (b : List ℕ) (place sum i : ℕ) → sum ≡ (place + words i b) % 2 ^ 32
@@ -81,3 +101,9 @@ unfolding leAt block
 block-read zero file k at h = refl
 block-read (suc n) file k at h =
     rw (getD-take 512 (drop (512 * k) file) at 0 (omega arith), getD-drop (512 * k) file at 0, block-read n file k (suc at) (omega arith), add-suc)
+
+-- a file that is m blocks is these blocks, one after the other
+pub blocks-of : (file : List ℕ) (m : ℕ) → length file ≡ 512 * m → file ≡ pieces (block file) 0 m
+unfolding block
+blocks-of file m e =
+    sym (take-all (512 * m) file (omega arith)) ∙ pieces-apart (λ k. take 512 (drop (512 * k) file)) 512 file 0 0 m (omega arith) (λ i h. rw (zero-add, zero-add))

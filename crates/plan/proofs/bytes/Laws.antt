@@ -84,7 +84,7 @@ bytes-leAt (suc n) s at h k =
     let q : (x + 256 * y) / 256 ≡ y = omega (arith, h at) in
     rw (p, q, drop-cons s at 0 (omega arith), bytes-leAt n s (suc at) h (omega arith))
 
--- one store of a run of stores
+-- one store of a number's bytes
 pub put-step : (s t : List ℕ) (at n rest i : ℕ) → i < n → sets s (at + i) (bytes (n - i) rest) ≡ t
     → sets (set s (at + i) (rest % 256)) (at + (i + 1)) (bytes (n - (i + 1)) (rest / 256)) ≡ t
 unfolding bytes
@@ -92,6 +92,13 @@ put-step s t at n rest i h e =
     let p : n - i ≡ suc (n - (i + 1)) = omega arith in
     let q : at + (i + 1) ≡ suc (at + i) = omega arith in
     rw q (rw p at e)
+
+-- one store of a run of stores, of bytes or of other numbers
+pub store-step : (s t row : List ℕ) (at i : ℕ) → i < length row → sets s (at + i) (drop i row) ≡ t
+    → sets (set s (at + i) (getD row i 0)) (at + (i + 1)) (drop (i + 1) row) ≡ t
+store-step s t row at i h e =
+    let q : at + (i + 1) ≡ suc (at + i) = omega arith in
+    rw (q, add-one) (rw (drop-cons row i 0 h) at e)
 
 -- a run of stores in two parts
 pub sets-append : (l : List ℕ) (i : ℕ) (a b : List ℕ) → sets l i (a ++ b) ≡ sets (sets l i a) (i + length a) b

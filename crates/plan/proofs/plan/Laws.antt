@@ -1,12 +1,12 @@
 -- Laws of the kinds of a plan's blocks and of the table of refusals. Assumes nothing.
 use mathlib.Core.Path.{_≡_, refl}
-use mathlib.Core.Bool.{true, false, _&&_}
+use mathlib.Core.Bool.{true, false}
 use mathlib.Core.List.{List}
-use Prim.Native.Nat.{ℕ, zero, suc, _+_, _*_, _%_, _<_, _≤_}
+use Prim.Native.Nat.{ℕ, zero, suc, _+_, _*_, _<_, _≤_}
 use native.Mathlib.Numerals.{add-one}
 use native.Mathlib.Omega.{arith}
-use borrow.Author.Tests.{le-leb, lt-ltb, le-ltb, leb-true}
-use lib.Dec.{eqb·suc-zero, leb, ltb, eqb}
+use borrow.Author.Tests.{le-leb, lt-ltb, le-ltb}
+use lib.Dec.{eqb·suc-zero}
 use lib.Ieee.{Float, nan}
 use lib.ListN.{length, getD, take, drop}
 use lib.Seq.{drop-cons}
@@ -14,13 +14,14 @@ use Rattle.plan.specs.Bytes.{leAt}
 use Rattle.plan.specs.Search.{firstIndex, each}
 use Rattle.plan.specs.Fields.{f64At}
 use Rattle.plan.specs.Code.Socs.{newAmong}
-use Rattle.plan.specs.Plan.{newSoc, broken, firstRefusal, lengthOk}
+use Rattle.plan.specs.Plan.{newSoc, broken, firstRefusal}
+use Rattle.plan.specs.Blocks.{wholeBlocks}
 use Rattle.plan.specs.Places.{kindAt, isVehicle}
 use Rattle.plan.specs.declared.answer.Rule.{Rule}
 use Rattle.plan.specs.declared.answer.Rule.the-variants.{Length}
 use Rattle.plan.specs.declared.answer.Refusal.the-variants.{Broken}
 use Rattle.plan.specs.declared.answer.Answer.the-variants.{Refused}
-use Rattle.charger.proofs.Lists.{and-true}
+use Rattle.plan.proofs.blocks.Laws.{whole-blocks}
 use Rattle.plan.proofs.SearchLaws.{every-same, fill-at}
 
 -- the vehicles come after the profiles
@@ -51,6 +52,5 @@ module _ (rs : List Rule) (plan : List ℕ) (n i : ℕ) (r : Rule) (k : ℕ) (h 
   refusal-miss l = rw (drop-cons rs i Length h, ← p, ← q, le-ltb k n l, add-one i)
 
 -- a plan that is not refused by its length has at most 113 blocks
-pub length-limit : (n : ℕ) → lengthOk n ≡ true → n ≤ 57856
-unfolding lengthOk
-length-limit n e = leb-true n 57856 (and-true (ltb 0 n && eqb (n % 512) 0) (leb n 57856) e .1)
+pub length-limit : (n : ℕ) → wholeBlocks n 113 ≡ true → n ≤ 57856
+length-limit n e = let w = whole-blocks n 113 e in omega arith

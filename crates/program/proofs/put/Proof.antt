@@ -5,7 +5,7 @@ use native.Mathlib.Nat.{add-zero}
 use native.Mathlib.Omega.{arith}
 use lib.ListN.{length, drop, length-set, drop-of-length-le}
 use lib.Seq.{sets}
-use Rattle.program.proofs.Text.{store-step}
+use Rattle.plan.proofs.bytes.Laws.{store-step}
 use Rattle.program.proofs.put.Statement.{statement}
 use Rattle.program.proofs.put.Tie as tie
 use Rattle.program.proofs.put.Reads as reads

@@ -1,54 +1,70 @@
 -- `program::put_line` meets its contract. Assumes nothing.
+use Prim.Native.Nat.{_-_}
 use native.Mathlib.Omega.{arith}
-use Rattle.program.proofs.Text.{stored-line}
 use borrow.Author.Needs.{needs}
+use Rattle.program.proofs.Text.{LineLeft, line-start, line-step, line-end}
 use Rattle.program.proofs.put_line.Statement.{statement}
 use Rattle.program.proofs.put_line.Tie as tie
-use Rattle.program.proofs.put_line.Reads as reads
-use Rattle.program.proofs.put_line.Lts as lts
-use Rattle.program.proofs.put_decimal.Reads as put-decimal-reads
 
-array-read-put-decimal : tie.Need-array-read-put-decimal
-array-read-put-decimal c = search needs
+abbrev Inv-loop : tie.InvT-loop
+Inv-loop out₀ numbers n at₀ i₀ out at i = LineLeft numbers out₀ out at i
 
-put-decimal-requires : tie.Need-put-decimal-requires
-put-decimal-requires c κs = search needs
+abbrev μ-loop : tie.MeasureT-loop
+μ-loop out₀ numbers n at₀ i₀ out at i = n - i
 
-array-read-put-decimal-2 : tie.Need-array-read-put-decimal-2
-array-read-put-decimal-2 c = search needs
+loop-holds : tie.Need-loop-holds Inv-loop μ-loop
+loop-holds c = line-start _ _
 
-put-decimal-requires-2 : tie.Need-put-decimal-requires-2
-put-decimal-requires-2 c κs = search needs
+mul-put-decimal : tie.Need-mul-put-decimal Inv-loop μ-loop
+mul-put-decimal c = omega arith
 
-array-read-put-decimal-3 : tie.Need-array-read-put-decimal-3
-array-read-put-decimal-3 c = search needs
+shared-slice-read-put-decimal : tie.Need-shared-slice-read-put-decimal Inv-loop μ-loop
+shared-slice-read-put-decimal c = omega arith
 
-put-decimal-requires-3 : tie.Need-put-decimal-requires-3
-put-decimal-requires-3 c κs = search needs
+byte-behind-requires : tie.Need-byte-behind-requires Inv-loop μ-loop
+byte-behind-requires c κs = omega arith
 
-same-length : tie.Need-same-length
+put-decimal-requires : tie.Need-put-decimal-requires Inv-loop μ-loop
+put-decimal-requires c κs = omega arith
+
+add-i : tie.Need-add-i Inv-loop μ-loop
+add-i c = omega arith
+
+loop-less : tie.Need-loop-less Inv-loop μ-loop
+loop-less c = omega arith
+
+loop-again : tie.Need-loop-again Inv-loop μ-loop
+loop-again c =
+    let stored = c .before .before in
+    let byte = stored .before in
+    let at-loop = byte .before .before .before .before in
+    let a = at-loop .before .before .before .args in
+    let put = stored .put-decimal .ensures in
+    line-step (a .numbers .now) (a .out .now) (at-loop .loop .out) _ (at-loop .loop .at) (at-loop .loop .i) _ (omega arith) (search needs) (put .0)
+    (rw (byte .byte-behind .ensures) at (put .1 .0)) (rw (byte .byte-behind .ensures) at (put .1 .1)) (at-loop .loop .inv)
+
+same-length : tie.Need-same-length Inv-loop μ-loop
 same-length c = omega arith
 
-returns : tie.Need-returns
+returns : tie.Need-returns Inv-loop μ-loop
 returns c =
-    let start = c .before .before .before .before .before .before .before .before .before .before .before .before .before in
-    let one = c .before .before .before .before .before .before .before .before .before .before .put-decimal .ensures in
-    let two = c .before .before .before .before .before .before .put-decimal2 .ensures in
-    let three = c .before .before .put-decimal3 .ensures in
-    stored-line (start .args .t2) (start .args .out .now) _ _ _ _ _ _ (start .pre)
-    (record { bounded = one .0; place = one .1 .0; stored = one .1 .1 })
-    (record { bounded = two .0; place = two .1 .0; stored = two .1 .1 })
-    (record { bounded = three .0; place = three .1 .0; stored = three .1 .1 })
+    let at-loop = c .before in
+    let start = at-loop .before .before .before in
+    line-end (start .args .numbers .now) (start .args .out .now) (at-loop .loop .out) (at-loop .loop .at) (at-loop .loop .i) (omega arith) (start .pre) (at-loop .loop .inv)
 
 pub put-line-spec : {M : Type 1} → statement M
 put-line-spec =
     tie.close
     (tie.spec
-    array-read-put-decimal
+    Inv-loop
+    μ-loop
+    loop-holds
+    mul-put-decimal
+    shared-slice-read-put-decimal
+    byte-behind-requires
     put-decimal-requires
-    array-read-put-decimal-2
-    put-decimal-requires-2
-    array-read-put-decimal-3
-    put-decimal-requires-3
+    add-i
+    loop-less
+    loop-again
     same-length
     returns)

@@ -8,8 +8,8 @@ use lib.ListN.{length, take, length-set}
 use Rattle.charger.specs.Code.Vehicles.{listed}
 use Rattle.charger.proofs.waiting_queue.Part.{length-mapped, map-step}
 use Rattle.plan.specs.Places.{chargerCount}
-use Rattle.files.specs.BookSession.{entry}
-use Rattle.files.specs.Code.Writing.{emptyFrom, Fits, FitBelow}
+use Rattle.files.specs.BookSession.{entry, Fits}
+use Rattle.files.specs.Code.Writing.{emptyFrom, FitBelow}
 use Rattle.files.proofs.book_session.Laws.{empty-start, empty-set, fit-set}
 use Rattle.files.proofs.book_session.entries.Statement.{statement}
 use Rattle.files.proofs.book_session.entries.Tie as tie
@@ -40,12 +40,12 @@ entry-fits c =
       plugin = omega (arith, times .1 .0);
       unplug = omega (arith, times .1 .1 .0);
       wait = omega (arith, times .1 .1 .1 .0);
-      duration = floats .0 .1 .1 .0 .1;
-      idle = floats .1 .0 .1 .1 .0 .1;
-      peak = floats .1 .1 .0 .1 .1 .0 .1;
-      energy = floats .1 .1 .1 .0 .1 .1 .0 .1;
-      start = floats .1 .1 .1 .1 .0 .1;
-      end = floats .1 .1 .1 .1 .1 .0 .1;
+      duration = omega (arith, floats .0);
+      idle = omega (arith, floats .1 .0);
+      peak = omega (arith, floats .1 .1 .0);
+      energy = omega (arith, floats .1 .1 .1 .0);
+      start = omega (arith, floats .1 .1 .1 .1 .0);
+      end = omega (arith, floats .1 .1 .1 .1 .1 .0);
     }
 
 no-session-requires : tie.Need-no-session-requires Inv-loop μ-loop

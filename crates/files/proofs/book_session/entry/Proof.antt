@@ -3,6 +3,9 @@ use borrow.Author.Needs.{needs}
 use Rattle.files.proofs.book_session.entry.Statement.{statement}
 use Rattle.files.proofs.book_session.entry.Tie as tie
 
+outcome-number-requires : tie.Need-outcome-number-requires
+outcome-number-requires c κs = search needs
+
 plugged-requires : tie.Need-plugged-requires
 plugged-requires c κs = search needs
 
@@ -30,40 +33,40 @@ charger-id-requires c κs = search needs
 connector-code-requires : tie.Need-connector-code-requires
 connector-code-requires c κs = search needs
 
-outcome-number-requires : tie.Need-outcome-number-requires
-outcome-number-requires c κs = search needs
-
-kept-number-requires : tie.Need-kept-number-requires
-kept-number-requires c κs = search needs
-
-kept-number-requires-2 : tie.Need-kept-number-requires-2
-kept-number-requires-2 c κs = search needs
-
 kept-requires : tie.Need-kept-requires
 kept-requires c κs = search needs
 
 kept-requires-2 : tie.Need-kept-requires-2
 kept-requires-2 c κs = search needs
 
-kept-requires-3 : tie.Need-kept-requires-3
-kept-requires-3 c κs = search needs
+kept-bits-requires : tie.Need-kept-bits-requires
+kept-bits-requires c κs = search needs
 
-kept-requires-4 : tie.Need-kept-requires-4
-kept-requires-4 c κs = search needs
+kept-bits-requires-2 : tie.Need-kept-bits-requires-2
+kept-bits-requires-2 c κs = search needs
 
-kept-requires-5 : tie.Need-kept-requires-5
-kept-requires-5 c κs = search needs
+kept-bits-requires-3 : tie.Need-kept-bits-requires-3
+kept-bits-requires-3 c κs = search needs
+
+kept-bits-requires-4 : tie.Need-kept-bits-requires-4
+kept-bits-requires-4 c κs = search needs
+
+to-bits-requires : tie.Need-to-bits-requires
+to-bits-requires c κs = search needs
+
+kept-bits-requires-5 : tie.Need-kept-bits-requires-5
+kept-bits-requires-5 c κs = search needs
 
 returns : tie.Need-returns
 returns c =
-    let energy = c .before in
+    let start = c .before in
+    let energy = start .before in
     let peak = energy .before in
     let idle = peak .before in
     let duration = idle .before in
     let unplug = duration .before in
     let plugin = unplug .before in
-    let outcome = plugin .before in
-    let connector = outcome .before in
+    let connector = plugin .before in
     let charger = connector .before in
     let profile = charger .before in
     let id = profile .before in
@@ -71,12 +74,13 @@ returns c =
     let count = row .before in
     let car = count .before in
     let done = car .before in
-    simp (c .kept5 .ensures, energy .kept4 .ensures, peak .kept3 .ensures, idle .kept2 .ensures, duration .kept .ensures, unplug .kept-number2 .ensures, plugin .kept-number .ensures, outcome .outcome-number .ensures, connector .connector-code .ensures, charger .charger-id .ensures, profile .vehicle-number2 .ensures, id .vehicle-number .ensures, row .row-of .ensures, count .charger-count .ensures .0, car .get-vehicle .ensures, done .charged .ensures, done .before .plugged .ensures)
+    simp (c .kept-bits5 .ensures, start .to-bits .ensures, energy .kept-bits4 .ensures, peak .kept-bits3 .ensures, idle .kept-bits2 .ensures, duration .kept-bits .ensures, unplug .kept2 .ensures, plugin .kept .ensures, connector .connector-code .ensures, charger .charger-id .ensures, profile .vehicle-number2 .ensures, id .vehicle-number .ensures, row .row-of .ensures, count .charger-count .ensures .0, car .get-vehicle .ensures, done .charged .ensures, done .before .plugged .ensures, done .before .before .outcome-number .ensures)
 
 pub entry-spec : {M : Type 1} → statement M
 entry-spec =
     tie.close
     (tie.spec
+    outcome-number-requires
     plugged-requires
     charged-requires
     get-vehicle-requires
@@ -86,12 +90,12 @@ entry-spec =
     vehicle-number-requires-2
     charger-id-requires
     connector-code-requires
-    outcome-number-requires
-    kept-number-requires
-    kept-number-requires-2
     kept-requires
     kept-requires-2
-    kept-requires-3
-    kept-requires-4
-    kept-requires-5
+    kept-bits-requires
+    kept-bits-requires-2
+    kept-bits-requires-3
+    kept-bits-requires-4
+    to-bits-requires
+    kept-bits-requires-5
     returns)

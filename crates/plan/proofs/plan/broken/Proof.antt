@@ -15,8 +15,8 @@ enum-told c = search needs
 enum-told-2 : tie.Need-enum-told-2
 enum-told-2 c = search needs
 
-wrong-check-requires : tie.Need-wrong-check-requires
-wrong-check-requires c κs = search needs
+passes-requires : tie.Need-passes-requires
+passes-requires c κs = search needs
 
 enum-told-3 : tie.Need-enum-told-3
 enum-told-3 c = search needs
@@ -70,7 +70,7 @@ returns : tie.Need-returns
 returns c = search needs
 
 returns-2 : tie.Need-returns-2
-returns-2 c = rw (c .before .enum-told2 .given .1) (c .wrong-check .ensures)
+returns-2 c = rw (c .before .enum-told2 .given .1, c .passes .ensures)
 
 returns-3 : tie.Need-returns-3
 returns-3 c = rw (c .before .before .enum-told3 .given .1) (cc)
@@ -98,7 +98,7 @@ broken-spec =
     kind-at-requires
     enum-told
     enum-told-2
-    wrong-check-requires
+    passes-requires
     enum-told-3
     block-requires-2
     counts-ok-requires

@@ -1,17 +1,17 @@
--- `dump_vectors::answer_bytes` is safe and ends. Assumes nothing.
+-- `recorded::answer_bytes` is safe and ends. Assumes nothing.
 use mathlib.Core.Path.{_≡_}
 use Prim.Native.Nat.{_≤_, _-_}
 use lib.ListN.{length}
 use borrow.Author.Needs.{needs}
-use Rattle.dump_vectors.proofs.answer_bytes.Statement.{statement}
-use Rattle.dump_vectors.proofs.answer_bytes.Tie as tie
+use Rattle.recorded.proofs.answer_bytes.Statement.{statement}
+use Rattle.recorded.proofs.answer_bytes.Tie as tie
 
 abbrev Inv-loop : tie.InvT-loop
-Inv-loop book dump numbers out₀ i₀ out i =
+Inv-loop first second numbers out₀ i₀ out i =
     (i ≤ 11) × (length out ≡ 104)
 
 abbrev μ-loop : tie.MeasureT-loop
-μ-loop book dump numbers out₀ i₀ out i = 11 - i
+μ-loop first second numbers out₀ i₀ out i = 11 - i
 
 loop-holds : tie.Need-loop-holds Inv-loop μ-loop
 loop-holds c = search needs

@@ -1,8 +1,8 @@
--- `plan::plan::wrong_check` meets its contract. Assumes nothing.
+-- `plan::blocks::passes` meets its contract. Assumes nothing.
 use borrow.Author.Needs.{needs}
 use Rattle.plan.specs.Blocks.{passes}
-use Rattle.plan.proofs.plan.wrong_check.Statement.{statement}
-use Rattle.plan.proofs.plan.wrong_check.Tie as tie
+use Rattle.plan.proofs.blocks.passes.Statement.{statement}
+use Rattle.plan.proofs.blocks.passes.Tie as tie
 
 block-requires : tie.Need-block-requires
 block-requires c κs = search needs
@@ -23,7 +23,7 @@ returns : tie.Need-returns
 unfolding passes
 returns c = cc
 
-pub wrong-check-spec : {M : Type 1} → statement M
-wrong-check-spec =
+pub passes-spec : {M : Type 1} → statement M
+passes-spec =
     tie.close
     (tie.spec block-requires cast-check-of add-check-of check-of-requires u32-at-requires returns)
