@@ -3,8 +3,9 @@ use Prim.Native.Nat.{ℕ, max}
 use mathlib.Core.Bool.{Bool, cond}
 use mathlib.Core.List.{List, [], _∷_}
 use lib.Dec.{eqb}
-use lib.Ieee.{Float, binary64, ofBits}
+use lib.Ieee.{binary64, ofBits}
 use Rattle.curve.specs.F64.{_⊕_, ratio}
+use Rattle.curve.specs.declared.units.Kwh.{Kwh}
 use Rattle.charger.specs.Lists.{count}
 use Rattle.files.specs.BookSession.{charged}
 use Rattle.files.specs.declared.book_session.BookSession.{BookSession}
@@ -16,10 +17,14 @@ use Rattle.book_reader.specs.declared.totals.TotalsAnswer.the-variants.{
 abbrev pub ofOutcome : ℕ → BookSession → Bool
 ofOutcome k x = eqb (x .outcome) k
 
--- the energy of the charged sessions is added to a sum, in the book's order, each addition rounded
-unfoldable pub energyFrom : Float → List BookSession → Float
+-- an energy with that of a session, if it is charged; the addition is rounded
+abbrev pub energyWith : Kwh → BookSession → Kwh
+energyWith sum x = record { 0 = cond (charged (x .outcome)) (sum .0 ⊕ ofBits binary64 (x .energy)) (sum .0) }
+
+-- and with those of some sessions, in the book's order
+unfoldable pub energyFrom : Kwh → List BookSession → Kwh
 energyFrom sum [] = sum
-energyFrom sum (x ∷ xs) = energyFrom (cond (charged (x .outcome)) (sum ⊕ ofBits binary64 (x .energy)) sum) xs
+energyFrom sum (x ∷ xs) = energyFrom (energyWith sum x) xs
 
 -- the longest of a wait and those of some sessions
 unfoldable pub longestFrom : ℕ → List BookSession → ℕ
@@ -33,7 +38,7 @@ totalsOf xs =
       charged = count (ofOutcome 1) xs;
       reneged = count (ofOutcome 2) xs;
       balked = count (ofOutcome 3) xs;
-      energy = record { 0 = energyFrom (ratio 0 1) xs };
+      energy = energyFrom (record { 0 = ratio 0 1 }) xs;
       «longest_wait» = longestFrom 0 xs;
     }
 

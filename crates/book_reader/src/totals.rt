@@ -11,8 +11,8 @@ ghost use mathlib.Core.Path.{_≡_};
 ghost use Prim.Native.Nat.{_≤_, _<_, max};
 ghost use lib.ListN.{take};
 ghost use Rattle.book_reader.specs.Reader.{readBook};
-ghost use Rattle.book_reader.specs.Totals.{totalsOf, totalsAnswer};
-ghost use Rattle.book_reader.specs.Code.Sums.{energyWith, added as Sums·added};
+ghost use Rattle.book_reader.specs.Totals.{energyWith, totalsOf, totalsAnswer};
+ghost use Rattle.book_reader.specs.Code.Sums.{added as Sums·added};
 
 // How many sessions are open, charged, reneged and balked, the energy of the charged ones, and the longest wait.
 pub struct BookTotals {

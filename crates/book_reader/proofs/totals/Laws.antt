@@ -24,7 +24,7 @@ more t xs =
       charged = t .charged + count (ofOutcome 1) xs;
       reneged = t .reneged + count (ofOutcome 2) xs;
       balked = t .balked + count (ofOutcome 3) xs;
-      energy = record { 0 = energyFrom (t .energy .0) xs };
+      energy = energyFrom (t .energy) xs;
       «longest_wait» = longestFrom (t .«longest_wait») xs;
     }
 

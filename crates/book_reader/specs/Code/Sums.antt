@@ -1,19 +1,10 @@
 -- Refinement: totals, session by session.
 use Prim.Native.Nat.{ℕ, _+_, max}
-use mathlib.Core.Bool.{cond}
 use mathlib.Core.List.{List, [], _∷_}
-use lib.Ieee.{binary64, ofBits}
-use Rattle.curve.specs.F64.{_⊕_}
-use Rattle.curve.specs.declared.units.Kwh.{Kwh}
 use Rattle.charger.specs.Lists.{tick}
-use Rattle.files.specs.BookSession.{charged}
 use Rattle.files.specs.declared.book_session.BookSession.{BookSession}
-use Rattle.book_reader.specs.Totals.{ofOutcome}
+use Rattle.book_reader.specs.Totals.{ofOutcome, energyWith}
 use Rattle.book_reader.specs.declared.totals.BookTotals.{BookTotals}
-
--- the energy so far with that of a session, if it is charged
-abbrev pub energyWith : Kwh → BookSession → Kwh
-energyWith sum x = record { 0 = cond (charged (x .outcome)) (sum .0 ⊕ ofBits binary64 (x .energy)) (sum .0) }
 
 -- totals with one session more
 unfoldable pub added : BookTotals → BookSession → BookTotals
