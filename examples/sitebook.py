@@ -3,7 +3,7 @@
 
 The program target/bin/site reads what `input` writes, and writes what `show` and the others read: a book or a refusal.
 `totals` has each book read by the program target/bin/totals.
-`dump` reads what the call site_dump writes.
+`dump` reads what the calls site_dump and site_book_late write, and `car` writes the block of a late car for site_book_late.
 FILE is standard input where it is left out or is -.
 Exit status: 0 done; 1 a file cannot be read, is damaged, is refused, or is a refusal; 2 wrong usage.
 """
@@ -42,11 +42,12 @@ def spoken(name):
     return "standard input" if name == "-" else name
 
 
-def read_text(name):
+def read_text(name, wanted):
+    """A plan from its description. Where this has faults, what is wanted is not written."""
     try:
         return text.read_plan(spoken(name), file_bytes(name))
     except text.Unreadable as faults:
-        raise Failed(f"{faults}\nno plan is written") from None
+        raise Failed(f"{faults}\nno {wanted} is written") from None
 
 
 def read_plan(name):
@@ -135,7 +136,14 @@ def warn(read, of_plan=None):
 
 
 def make_plan(options):
-    sys.stdout.buffer.write(read_text(options.text).data())
+    sys.stdout.buffer.write(read_text(options.text, "plan").data())
+
+
+def make_car(options):
+    car = read_text(options.text, "car").car()
+    if car is None:
+        raise Failed(f"{spoken(options.text)}: there is no vehicle; the late car is the last one\nno car is written")
+    sys.stdout.buffer.write(car)
 
 
 def make_input(options):
@@ -204,6 +212,9 @@ def parser():
 
     made = command("plan", make_plan, "write a plan's bytes from its description")
     made.add_argument("text", metavar="day.txt")
+
+    booked = command("car", make_car, "write the block of a late car from the longer plan's description, whose last vehicle it is")
+    booked.add_argument("text", metavar="longer.txt")
 
     fed = command("input", make_input, "write what the program reads: engine, allowance and plan")
     fed.add_argument("engine", metavar="ENGINE", type=engine, help="events or 0: fast, ignores the site limit; steps or 1: obeys it")

@@ -3,7 +3,7 @@ import struct
 import unittest
 
 from made_books import CHARGED, EACH, altered, book_bytes
-from made_dumps import ARRIVAL, ENDED, PLAN, RENEGE, UNPLUG, WAITING, dump_bytes
+from made_dumps import ARRIVAL, BOOKED_LATE, ENDED, LONGER_PLAN, PLAN, RENEGE, UNPLUG, WAITING, dump_bytes
 from sitefiles import blocks, book, dump, plan, tables
 from sitefiles.blocks import Damaged
 from sitefiles.dump import Event, Place
@@ -99,6 +99,23 @@ class Words(unittest.TestCase):
         self.assertEqual(lines[4], "  00:01:40  arrival  vehicle 7")
         self.assertIn("0 sessions by events", lines[6])
 
+    def test_a_late_car_with_the_longer_plan(self):
+        before, lines = words(WAITING, PLAN), words(BOOKED_LATE, LONGER_PLAN)
+        self.assertEqual(lines[:7], before[:7])
+        self.assertEqual(
+            lines[7:13],
+            [
+                "  00:08:20   renege   vehicle 9",
+                "  00:09:10  arrival  vehicle 12",
+                "  00:10:00  arrival  vehicle 11",
+                "  00:34:40   unplug   charger 3",
+                "  00:35:50   renege  vehicle 12",
+                "  00:40:00   renege  vehicle 11",
+            ],
+        )
+        self.assertEqual(lines[13:-1], before[11:-1])
+        self.assertIn("4 vehicles without a session", lines[-1])
+
     def test_a_plan_as_bytes_gives_the_same_words(self):
         self.assertEqual(words(WAITING, plan.from_bytes("day.plan", PLAN.data())), words(WAITING, PLAN))
 
@@ -193,6 +210,9 @@ class Damage(unittest.TestCase):
             (dict(sessions=[CHARGED | {"vehicle": 12}]), "vehicle 12 is not in day.txt: the dump is of another plan"),
         ]:
             self.expect(dump_bytes(**WAITING | other), saying, PLAN)
+
+    def test_a_late_car_with_the_plan_before_it(self):
+        self.expect(dump_bytes(**BOOKED_LATE), "block 10 of day.txt is no vehicle: the dump is of another plan", PLAN)
 
 
 if __name__ == "__main__":

@@ -1,5 +1,5 @@
-"""The bytes shown in docs/FORMATS.md are those of the plan that it names, of the book and the dump that are written for it, and the numbers
-those of the book."""
+"""The bytes shown in docs/FORMATS.md are those of the plan that it names, of the book and the dump that are written for it, and of a late
+booking; the numbers are those of the book."""
 import re
 import struct
 import subprocess
@@ -16,10 +16,12 @@ PAGE = (HERE.parent / "docs" / "FORMATS.md").read_text()
 PROGRAM = HERE.parent / "target" / "bin" / "site"
 READER = HERE.parent / "target" / "bin" / "totals"
 DUMPER = HERE.parent / "target" / "examples" / "dump"
+LATE = HERE.parent / "target" / "examples" / "late"
 BOOK_READER = HERE.parent / "target" / "examples" / "read_book"
 BLOCK = re.compile(r"    Block (\d+): ")
 BYTES = re.compile(r" +(\d+)  ((?:[0-9a-f]{2} )+) ")
 NUMBER = re.compile(r"^ +(\d+)  0x([0-9a-f]+) ", re.MULTILINE)
+CAR = re.compile(r"^    (vehicle .*\n)", re.MULTILINE)
 TOTALS = re.compile(r"^    (0(?: \d+){6}\n)", re.MULTILINE)
 
 
@@ -40,7 +42,10 @@ def shown_files():
 
 class Page(unittest.TestCase):
     def setUp(self):
-        self.plan, self.book, self.dump = shown_files()
+        self.plan, self.book, self.dump, longer, new_dump = shown_files()
+        # Blocks that stay as they are above are not shown again.
+        self.longer_plan = longer[:512] + self.plan[512:] + longer[len(self.plan) :]
+        self.new_dump = new_dump + self.dump[len(new_dump) :]
 
     def test_the_plan_is_that_of_its_description(self):
         self.assertEqual(self.plan, text.read_plan("bay.txt", (HERE / "bay.txt").read_bytes()).data())
@@ -99,6 +104,41 @@ class Page(unittest.TestCase):
             dumped = subprocess.run([DUMPER, of_plan, "1"], capture_output=True)
             continued = subprocess.run([DUMPER, of_plan, of_dump, "100"], capture_output=True)
         self.assertEqual((dumped.stdout, continued.stdout), (self.dump, self.book))
+
+    def read_longer_plan(self):
+        [line] = CAR.findall(PAGE)
+        return text.read_plan("longer.txt", (HERE / "bay.txt").read_bytes() + line.encode())
+
+    def test_the_longer_plan_is_that_of_its_description(self):
+        self.assertEqual(self.longer_plan, self.read_longer_plan().data())
+
+    def test_the_new_dump_is_the_dump_with_the_events_of_the_car(self):
+        before, read = dump.read(self.dump), dump.read(self.new_dump, self.read_longer_plan())
+        self.assertEqual((read.used, read.queue, read.busy, read.sessions), (before.used, before.queue, before.busy, before.sessions))
+        car = Place("vehicle", 5)
+        self.assertEqual(read.events, [Event(200, "arrival", car), *before.events, Event(2100, "renege", car)])
+
+    @unittest.skipUnless(LATE.exists() and DUMPER.exists(), "the program over site_book_late is not built: bash examples/link")
+    def test_the_new_dump_is_what_the_call_writes_and_continues_as_planned_in_full(self):
+        car = self.longer_plan[-512:]
+        early = blocks.sealed(car[:40] + struct.pack("<Q", 100) + car[48 : blocks.CHECK], 5)
+        with tempfile.TemporaryDirectory() as folder:
+            files = dict(plan=self.plan, dump=self.dump, car=car, early=early, longer=self.longer_plan, new=self.new_dump)
+            paths = {name: Path(folder) / name for name in files}
+            for name, data in files.items():
+                paths[name].write_bytes(data)
+
+            def written(program, *words):
+                return subprocess.run([program, *(paths.get(word, word) for word in words)], capture_output=True)
+
+            self.assertEqual(written(LATE, "plan", "dump", "car").stdout, self.new_dump)
+            self.assertEqual(written(LATE, "plan", "car").stdout, self.longer_plan)
+            continued = written(DUMPER, "longer", "new", "100").stdout
+            self.assertEqual(continued, written(DUMPER, "longer").stdout)
+            refused = written(LATE, "plan", "dump", "early")
+        self.assertEqual((refused.returncode, refused.stdout, refused.stderr), (1, b"", b"18 0 0\n"))
+        read = book.read(continued)
+        self.assertEqual((read.used, read.ended, [each.unplug for each in read.sessions]), (6, True, [2020, 3940]))
 
 
 if __name__ == "__main__":

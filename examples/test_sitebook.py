@@ -11,8 +11,8 @@ from unittest import mock
 
 import sitebook
 from made_books import CHARGED, OPEN, book_bytes
-from made_dumps import PLAN, WAITING, dump_bytes
-from sitefiles import book, dump
+from made_dumps import BOOKED_LATE, LONGER_PLAN, LONGER_TEXT, PLAN, TEXT, WAITING, dump_bytes
+from sitefiles import blocks, book, dump
 from sitefiles.tables import exact
 
 HERE = Path(__file__).parent
@@ -82,8 +82,27 @@ class Plans(Commands):
             'day.txt:2: "75MW": power is in kW\nday.txt:3: "limit": a site has one limit, and it is given on line 1\nno plan is written\n',
         )
 
+    def test_car(self):
+        before, longer = self.file("day.txt", TEXT), self.file("longer.txt", LONGER_TEXT)
+        car, of_plan, of_longer = self.succeeds("car", longer), self.succeeds("plan", before), self.succeeds("plan", longer)
+        self.assertEqual(len(car), blocks.BLOCK)
+        header = bytearray(of_plan[: blocks.BLOCK])
+        header[8] += 1
+        header[blocks.CHECK] += 1
+        self.assertEqual(of_longer, header + of_plan[blocks.BLOCK :] + car)
+        self.assertEqual(self.succeeds("car", "-", stdin=LONGER_TEXT), car)
+
+    def test_a_car_that_cannot_be_read_is_not_written(self):
+        path = self.file("longer.txt", LONGER_TEXT + b"vehicle 12 profile 1\n")
+        self.assertEqual(
+            self.fails("car", path).replace(path, "longer.txt"),
+            'longer.txt:10: "12": this id has a vehicle already, on line 9\nno car is written\n',
+        )
+        path = self.file("longer.txt", TEXT[: TEXT.index(b"vehicle")])
+        self.assertEqual(self.fails("car", path), f"{path}: there is no vehicle; the late car is the last one\nno car is written\n")
+
     def test_files_that_are_not_there(self):
-        for words in [["plan", "none.txt"], ["input", "steps", "5", "none.plan"], ["show", "none.book"], ["show", "--plan", "none.txt"]]:
+        for words in [["plan", "none.txt"], ["car", "none.txt"], ["input", "steps", "5", "none.plan"], ["show", "none.book"], ["show", "--plan", "none.txt"]]:
             self.assertIn("none", self.fails(*words))
         self.assertIn("directory", self.fails("csv", str(self.folder)))
 
@@ -105,6 +124,8 @@ class Plans(Commands):
             ["paint"],
             ["plan"],
             ["plan", "a", "b"],
+            ["car"],
+            ["car", "a", "b"],
             ["input", "steps", "5"],
             ["input", "rounds", "5", "day.plan"],
             ["input", "256", "5", "day.plan"],
@@ -170,12 +191,14 @@ class Books(Commands):
         self.assertRegex(lines[1], r"  block 7 of .*day.txt, vehicle 7001, line \d+: vehicle 7001 profile 1 ")
         self.assertRegex(lines[2], r"  block 4 of .*day.txt, charger 101, line \d+: charger 101 power 75 kW ")
 
-    def test_refusals_of_dumps_and_books_in_words(self):
+    def test_refusals_of_dumps_books_and_late_cars_in_words(self):
         for line, saying in [
             (b"13 0 0\n", "the buffer for the dump is shorter than 16,384 bytes"),
             (b"14 0 0\n", "the dump is not that of this plan"),
             (b"15 0 0\n", "the book's length is 0, not a multiple of 512 bytes or above 14 blocks, or a block's check is wrong"),
             (b"16 0 0\n", "the block count for the session count is against the book's rules"),
+            (b"17 0 0\n", "the plan has 64 vehicles already, so no late car can be booked"),
+            (b"18 0 0\n", "the late car's arrival is not later than the last handled event"),
         ]:
             status, out, said = self.run_tool("show", "--plan", HERE / "day.txt", stdin=line)
             self.assertEqual((status, said, out.count(b"\n")), (1, "", 1))
@@ -222,6 +245,12 @@ class Dumps(Commands):
     def test_dump_with_its_plan(self):
         path, of_plan = self.file("day.dump", self.WHOLE), self.file("day.plan", PLAN.data())
         self.assertIn(b"charger 3 with vehicle 7\n", self.succeeds("dump", "--plan", of_plan, path))
+
+    def test_dump_of_a_longer_plan(self):
+        data, longer = dump_bytes(**BOOKED_LATE), self.file("longer.txt", LONGER_TEXT)
+        shown = self.succeeds("dump", "--plan", longer, stdin=data).decode()
+        self.assertEqual(shown.split("\n"), dump.in_words(dump.read(data), LONGER_PLAN) + [""])
+        self.assertIn("block 10 of ", self.fails("dump", "--plan", self.file("day.txt", TEXT), stdin=data))
 
     def test_a_limit_that_events_ignore_is_warned_of(self):
         limited = self.file("day.plan", b"".join([PLAN.data()[:12], b"\1\0\0\0", struct.pack("<d", 90), PLAN.data()[24:]]))

@@ -3,7 +3,7 @@ import struct
 import unittest
 from pathlib import Path
 
-from sitefiles import plan, text
+from sitefiles import blocks, plan, text
 
 HERE = Path(__file__).parent
 
@@ -38,6 +38,15 @@ class Reading(unittest.TestCase):
         self.assertEqual([(part.kind, part.id) for part in read.parts], [(part.kind, part.id) for part in made.parts])
         self.assertEqual(read.ids("vehicle"), list(range(7001, 7008)))
         self.assertEqual(read.data(), made.data())
+
+    def test_the_car_is_the_last_vehicle(self):
+        late = VEHICLE.replace("vehicle 1", "vehicle 2")
+        for lines in [[PROFILE, CHARGER, VEHICLE, late], [VEHICLE, late, CHARGER, PROFILE]]:
+            made = text.read_plan("day.txt", "\n".join(lines).encode())
+            self.assertEqual(made.car(), made.data()[-512:])
+            self.assertEqual((made.car()[:4], blocks.passes(made.car(), 5)), (b"\2\0\0\0", True))
+        for lines in [[], [CHARGER], [PROFILE, CHARGER]]:
+            self.assertIsNone(text.read_plan("day.txt", "\n".join(lines).encode()).car())
 
     def test_kinds_come_in_any_order_and_fields_too(self):
         mixed = ["vehicle 1 queue 10 wait 1800 arrival 100 idle 120 soc 0.25 0.75 connectors profile 1", CHARGER, PROFILE]

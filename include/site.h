@@ -1,19 +1,19 @@
-/* The joined site engine for C and C++: check a plan, run it, dump a run and continue it, read a book back.
+/* The joined site engine for C and C++: check a plan, run it, dump a run, book a late car into it and continue it, read a book back.
  *
  * `rt staticlib calls` proves the functions and writes target/staticlib/libcalls.a, for x86-64 Linux. It needs nothing
  * but memcpy and memset, so no further library is named:
  *
  *     cc main.c -Iinclude target/staticlib/libcalls.a
  *
- * docs/FORMATS.md describes the plan, the book and the dump byte by byte, and the refusals.
+ * docs/FORMATS.md describes the plan, the book and the dump byte by byte, the late booking, and the refusals.
  *
  * What holds of every call:
- * - Every plan, every dump and every book gets an answer, also one that is damaged or none at all. Nothing needs to be
- *   tested before a call.
+ * - Every plan, every dump, every car and every book gets an answer, also one that is damaged or none at all. Nothing needs to
+ *   be tested before a call.
  * - A call is a function of its arguments alone. It allocates nothing, keeps no pointer and has no state, so calls may run
  *   on several threads at once, each with its own buffers to write and its own `numbers`; what is only read may be shared.
  * - No pointer may be null, also where its length is 0. The buffers of one call may not overlap. `numbers`, `header`
- *   and `sessions` are aligned as uint64_t; `plan`, `book` and `dump` may begin anywhere.
+ *   and `sessions` are aligned as uint64_t; `plan`, `book`, `dump`, `car` and `new_dump` may begin anywhere.
  * - A refused call writes `numbers` and nothing else.
  * - Each call has its SITE_.._STACK, the most bytes of stack that it takes; examples/c/stack.c measures it against them. Give
  *   a thread that calls them 512 KiB or more: the usual 8 MiB is plenty, the 128 KiB of a thread under musl are too few.
@@ -30,12 +30,16 @@
 extern "C" {
 #endif
 
-/* Lengths in bytes: a longer plan is refused by 4, a longer book to read by 15, a shorter buffer for the book by 3, one for the
- * dump by 13. */
+/* Lengths in bytes: a longer plan is refused by 4, a car of another length too, a longer book to read by 15, a shorter buffer for
+ * the book by 3, one for a dump by 13. */
 #define SITE_PLAN_MOST 57856
+#define SITE_CAR_BYTES 512
 #define SITE_BOOK_MOST 7168
 #define SITE_BOOK_LEAST 7168
 #define SITE_DUMP_LEAST 16384
+
+/* A plan that counts more vehicles is refused by 6, a late car that would be one more by 17. */
+#define SITE_VEHICLES_MOST 64
 
 /* A book that counts more sessions is refused by 16. */
 #define SITE_SESSIONS_MOST 64
@@ -45,6 +49,7 @@ extern "C" {
 #define SITE_RUN_STACK 212992
 #define SITE_DUMP_STACK 114688
 #define SITE_CONTINUE_STACK 131072
+#define SITE_BOOK_LATE_STACK 204800
 #define SITE_READ_BOOK_STACK 4096
 
 /* A larger allowance, also of further events, is refused by 2. */
@@ -58,7 +63,7 @@ enum site_engine {
 
 /* Where the eleven numbers of an answer stand. */
 enum site_number {
-    SITE_NUMBER,         /* 0: fine; 1 to 16: refused, and all numbers after the two places are 0 */
+    SITE_NUMBER,         /* 0: fine; 1 to 18: refused, and all numbers after the two places are 0 */
     SITE_PLACE,          /* the block that a refusal names, the first being 1; 0 is none */
     SITE_OTHER_PLACE,    /* for 12 the charger's block beside the vehicle's */
     SITE_USED,           /* units used: events handled, or rounds of one second */
@@ -160,6 +165,27 @@ void site_dump(const uint8_t *plan, size_t plan_length, uint32_t engine, uint32_
  */
 void site_continue(const uint8_t *plan, size_t plan_length, const uint8_t *dump, size_t dump_length, uint32_t further, uint8_t *book,
                    size_t book_length, uint64_t numbers[SITE_NUMBERS]);
+
+/* Books a late car into a dumped run: writes the dump of the longer plan, which is the plan with the car as its last vehicle, after the
+ * same handled count. What the run has done by then stands in it unchanged: queue, busy chargers, sessions and units used. Its events
+ * are those of the dump, with the car's arrival and renege at their places. Continued by site_continue with the longer plan, the
+ * run has the numbers and the book of one that was planned in full. An ended run takes a car too.
+ *
+ * The caller makes the longer plan, as examples/c/late.c does: one vehicle more at bytes 8 and 9 of the header, the header's check
+ * made again, and the car's block behind the last one.
+ *
+ * plan, plan_length          the bytes of the plan that was dumped; read only
+ * dump, dump_length          bytes that begin with the dump; read only. Those behind it are not read
+ * car, car_length            the car's block, a vehicle's with the check of its place behind the plan's last block, of
+ *                            SITE_CAR_BYTES bytes; read only
+ * new_dump, new_dump_length  at least SITE_DUMP_LEAST bytes. The new dump's length is told as in site_dump; bytes behind it stay
+ *                            as they were
+ * numbers                    all eleven are written: refusals 13, 4 to 12, 14, 17, 18, and then 4 to 12 of the longer plan, tested in
+ *                            this order, or zeros. 17: there are SITE_VEHICLES_MOST vehicles already. 18: the car's arrival is
+ *                            not later than the last handled event; where none was handled any arrival will do
+ */
+void site_book_late(const uint8_t *plan, size_t plan_length, const uint8_t *dump, size_t dump_length, const uint8_t *car,
+                    size_t car_length, uint8_t *new_dump, size_t new_dump_length, uint64_t numbers[SITE_NUMBERS]);
 
 /* Reads a book back. It accepts just the books that can be written for some list of up to SITE_SESSIONS_MOST sessions, and gives
  * these bit for bit. A field may hold any bits where no rule says otherwise, so a float may be a NaN.

@@ -9,10 +9,13 @@ mod book_slips;
 mod change;
 #[path = "slipped/dump_slips.rs"]
 mod dump_slips;
+#[path = "slipped/late_slips.rs"]
+mod late_slips;
 
 use book_slips::{BOOK_SLIPS, READ_BOOK};
 use change::changed;
 use dump_slips::{DUMP_CALLS, DUMP_SLIPS};
+use late_slips::{BOOK_LATE, LATE_SLIPS};
 
 fn main() {
     println!("cargo::rustc-check-cfg=cfg(product)");
@@ -44,9 +47,10 @@ fn main() {
 /// Copies the oracle's own calls, with the slip where it is one of theirs, and declares them for src/slipped.rs.
 fn copy_calls(here: &Path, slip: &str) {
     let out = PathBuf::from(env::var("OUT_DIR").unwrap());
-    let slip = DUMP_SLIPS.iter().chain(&BOOK_SLIPS).find(|(known, _)| *known == slip).map(|(_, change)| change);
+    let mut slips = DUMP_SLIPS.iter().chain(&BOOK_SLIPS).chain(&LATE_SLIPS);
+    let slip = slips.find(|(known, _)| *known == slip).map(|(_, change)| change);
     let mut declarations = String::new();
-    for file in [DUMP_CALLS, READ_BOOK] {
+    for file in [DUMP_CALLS, READ_BOOK, BOOK_LATE] {
         let source = here.join("src").join(file);
         println!("cargo::rerun-if-changed={}", source.display());
         let mut text = fs::read_to_string(&source).unwrap();

@@ -10,8 +10,9 @@
 
 enum { STACK = 1 << 20, PATTERN = 0xa5 };
 
-static uint8_t plan[SITE_PLAN_MOST + 1], book[SITE_BOOK_LEAST], dump[SITE_DUMP_LEAST];
-static size_t length;
+static uint8_t plan[SITE_PLAN_MOST + 1], shorter[SITE_PLAN_MOST + 1];
+static size_t length, shorter_length;
+static uint8_t book[SITE_BOOK_LEAST], dump[SITE_DUMP_LEAST], new_dump[SITE_DUMP_LEAST];
 static uint64_t numbers[SITE_NUMBERS], header[SITE_HEADER_NUMBERS], sessions[SITE_SESSIONS_MOST * SITE_SESSION_NUMBERS];
 static uint8_t *stack, *top;
 
@@ -42,6 +43,14 @@ static void *continuing(void *allowances) {
     for (const uint32_t *further = allowances; *further <= SITE_ALLOWANCE_MOST; further++)
         site_continue(plan, length, dump, sizeof dump, *further, book, sizeof book, numbers);
     return NULL;
+}
+
+/* The plan's last vehicle comes late to the shorter plan. */
+static void *booking(void *none) {
+    const uint8_t *car = plan + shorter_length;
+    top = __builtin_frame_address(0);
+    site_book_late(shorter, shorter_length, dump, sizeof dump, car, length - shorter_length, new_dump, sizeof new_dump, numbers);
+    return none;
 }
 
 /* The book that was written last: a header and five sessions a block, with the count at 4. */
@@ -80,6 +89,29 @@ static long most_of_continuing(uint32_t *allowances) {
     return most;
 }
 
+/* Makes the shorter plan, which is the plan without its last vehicle. Its header counts a vehicle fewer; so its check, which is a sum, is
+ * one less too. The vehicle's block has the check that a late car needs. */
+static void shorten(void) {
+    uint32_t check;
+    shorter_length = length < SITE_CAR_BYTES ? 0 : length - SITE_CAR_BYTES;
+    memcpy(shorter, plan, sizeof shorter);
+    shorter[8]--;
+    memcpy(&check, shorter + 508, sizeof check);
+    check--;
+    memcpy(shorter + 508, &check, sizeof check);
+}
+
+/* The most that a late booking takes, over dumps of the shorter plan after each of the allowances. */
+static long most_of_booking(const uint32_t *allowance) {
+    long most = 0;
+    shorten();
+    for (; *allowance <= SITE_ALLOWANCE_MOST; allowance++) {
+        site_dump(shorter, shorter_length, SITE_EVENTS, *allowance, book, sizeof book, dump, sizeof dump, numbers);
+        most = larger(most, depth(booking, NULL));
+    }
+    return most;
+}
+
 /* The most that reading takes, over the books of both engines under each of the allowances. */
 static long most_of_reading(const uint32_t *allowance) {
     long most = 0;
@@ -102,6 +134,7 @@ static int measure(const char *name) {
         {"site_run", depth(run, allowances), SITE_RUN_STACK},
         {"site_dump", depth(dumping, allowances), SITE_DUMP_STACK},
         {"site_continue", most_of_continuing(allowances), SITE_CONTINUE_STACK},
+        {"site_book_late", most_of_booking(allowances), SITE_BOOK_LATE_STACK},
         {"site_read_book", most_of_reading(allowances), SITE_READ_BOOK_STACK},
     };
     int fine = 1;

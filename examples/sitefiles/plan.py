@@ -30,6 +30,10 @@ class Plan:
     def data(self):
         return blocks.joined(part.body for part in self.parts)
 
+    def car(self):
+        """The block of the last vehicle, with the check of its place; None if there is no vehicle."""
+        return self.data()[-blocks.BLOCK :] if self.parts[-1].kind == "vehicle" else None
+
     def part_at(self, place):
         """The part of a block, the first being 1; None past the last."""
         return self.parts[place - 1] if 1 <= place <= len(self.parts) else None

@@ -10,7 +10,7 @@ RULES = {
     1: "the engine is neither 0 (events) nor 1 (steps), or it is steps and a dump was asked for",
     2: "the allowance is above 10,000,000 units",
     3: "the buffer for the book is shorter than 7,168 bytes",
-    4: "the plan is empty, or not made of whole blocks of 512 bytes, or longer than 113 blocks",
+    4: "the plan is empty, or not made of whole blocks of 512 bytes, or longer than 113 blocks, or a late car's block is not of 512 bytes",
     5: "the block's check does not agree with its bytes: the plan is damaged",
     6: "the header's letters are not PLAN, or its counts are too large or disagree with the plan's length",
     7: "a field is out of its range, or a byte that must be zero is not",
@@ -23,6 +23,8 @@ RULES = {
     14: "the dump is not that of this plan after the number of handled events that it names",
     15: "the book's length is 0, not a multiple of 512 bytes or above 14 blocks, or a block's check is wrong",
     16: "a header or session field, a zero byte, or the block count for the session count is against the book's rules",
+    17: "the plan has 64 vehicles already, so no late car can be booked",
+    18: "the late car's arrival is not later than the last handled event",
 }
 
 

@@ -10,6 +10,8 @@ mod change;
 mod changes;
 #[path = "../slipped/dump_slips.rs"]
 mod dump_slips;
+#[path = "../slipped/late_slips.rs"]
+mod late_slips;
 mod slips;
 
 use change::{Change, changed, stop};
@@ -70,8 +72,8 @@ fn original_folder() -> PathBuf {
 fn slip() -> Option<Change> {
     let name = env::var("SLIP").ok().filter(|name| !name.is_empty())?;
     let found = slips::SLIPS.iter().find(|(known, _)| *known == name).map(|(_, change)| *change);
-    let all = slips::SLIPS.iter().chain(&dump_slips::DUMP_SLIPS).chain(&book_slips::BOOK_SLIPS);
-    let names: Vec<&str> = all.map(|(known, _)| *known).collect();
+    let of_calls = dump_slips::DUMP_SLIPS.iter().chain(&book_slips::BOOK_SLIPS).chain(&late_slips::LATE_SLIPS);
+    let names: Vec<&str> = slips::SLIPS.iter().chain(of_calls).map(|(known, _)| *known).collect();
     if !names.contains(&name.as_str()) {
         stop(&format!("SLIP is {name}; known are: {}.", names.join(", ")));
     }

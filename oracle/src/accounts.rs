@@ -7,7 +7,7 @@ use crate::{Numbers, run};
 
 type Found = Result<(), String>;
 
-fn demand(holds: bool, what: &str) -> Found {
+pub fn demand(holds: bool, what: &str) -> Found {
     if holds { Ok(()) } else { Err(what.to_string()) }
 }
 

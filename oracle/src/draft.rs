@@ -1,5 +1,5 @@
 //! A plan in parts, for making and altering plans.
-use crate::blocks::{BLOCK, Block, CHECK, check_of, f64_at, put, put_f64, u16_at, u32_at};
+use crate::blocks::{BLOCK, Block, CHECK, check_of, f64_at, put, put_f64, seal, u16_at, u32_at};
 use crate::plan::{MOST_CHARGERS, MOST_PROFILES, MOST_VEHICLES};
 
 /// Blocks whose last four bytes hold how far the check is off: zero where it is right.
@@ -155,6 +155,13 @@ impl Car {
         put(&mut block, 40, &self.arrival.to_le_bytes());
         put(&mut block, 48, &self.wait.to_le_bytes());
         put(&mut block, 56, &self.queue_limit.to_le_bytes());
+        block
+    }
+
+    /// The block for a late booking: its check is that of the place behind the plan.
+    pub fn behind(&self, plan: &[u8]) -> Block {
+        let mut block = self.block();
+        seal(&mut block, plan.len() / BLOCK + 1);
         block
     }
 }

@@ -1,6 +1,6 @@
 //! The dump of a run by events (request 1): a header block, then 31 events a block, then sessions as in a book.
 use crate::blocks::{BLOCK, put, seal_all, u16_at, u64_at};
-use crate::book::{Entry, SESSIONS_A_BLOCK, write_sessions};
+use crate::book::{Entry, SESSION, SESSIONS_A_BLOCK, slots, write_sessions};
 
 pub const LEAST_DUMP: usize = 16_384;
 pub const EVENT: usize = 16;
@@ -45,16 +45,30 @@ pub fn handled(dump: &[u8]) -> Option<u64> {
     (dump.len() >= USED + 8).then(|| u64_at(dump, USED))
 }
 
+/// Where event k begins in a dump.
+fn event_at(k: usize) -> usize {
+    BLOCK * (1 + k / EVENTS_A_BLOCK) + EVENT * (k % EVENTS_A_BLOCK)
+}
+
+/// The events of a dump, in its order.
+pub fn events(dump: &[u8]) -> Vec<Pending> {
+    let read = |at| Pending { time: u64_at(dump, at), kind: dump[at + 8], block: usize::from(u16_at(dump, at + 10)) };
+    (0..usize::from(u16_at(dump, 8))).map(|k| read(event_at(k))).collect()
+}
+
+/// The bytes of each session of a dump.
+pub fn sessions(dump: &[u8]) -> Vec<&[u8; SESSION]> {
+    let from = dump_bytes(usize::from(u16_at(dump, 8)), 0);
+    slots(&dump[from..]).take(usize::from(u16_at(dump, 10))).collect()
+}
+
 pub fn written(state: &State) -> Vec<u8> {
     let mut dump = vec![0; dump_bytes(state.events.len(), state.sessions.len())];
-    let (header, rest) = dump.split_at_mut(BLOCK);
-    write_header(header, state);
-    let (events, sessions) = rest.split_at_mut(BLOCK * state.events.len().div_ceil(EVENTS_A_BLOCK));
+    write_header(&mut dump[..BLOCK], state);
     for (k, event) in state.events.iter().enumerate() {
-        let at = BLOCK * (k / EVENTS_A_BLOCK) + EVENT * (k % EVENTS_A_BLOCK);
-        write_event(&mut events[at..at + EVENT], event);
+        write_event(&mut dump[event_at(k)..][..EVENT], event);
     }
-    write_sessions(sessions, &state.sessions);
+    write_sessions(&mut dump[dump_bytes(state.events.len(), 0)..], &state.sessions);
     seal_all(&mut dump);
     dump
 }

@@ -41,17 +41,18 @@ fn run_on(plan: &[u8], dump: &[u8], further: u32, book: usize) -> Result<EventRu
     Ok(run)
 }
 
-/// Refusal 14. A run has few events: one that does not reach the count ends, and its dump names another.
-fn run_again(mut run: EventRun, given: &[u8]) -> Result<EventRun, Refusal> {
+/// Refusal 14. The run, which is not past the count, goes on to it. A run has few events: one that does not reach the count
+/// ends, and its dump names another.
+pub fn run_again(mut run: EventRun, given: &[u8]) -> Result<EventRun, Refusal> {
     let no_dump = Refusal::new(14, 0, 0);
     let handled = dump::handled(given).ok_or(no_dump)?;
-    run.go_on(u32::try_from(handled).unwrap_or(MOST_UNITS));
+    run.go_on(u32::try_from(handled).unwrap_or(MOST_UNITS) - run.used);
     let written = dump::written(&state(&run));
     if given.starts_with(&written) { Ok(run) } else { Err(no_dump) }
 }
 
 /// What a dump shows of a run.
-fn state(run: &EventRun) -> State {
+pub fn state(run: &EventRun) -> State {
     let (plan, simulation) = (&run.plan, &run.simulation);
     let queue = simulation.queue();
     let busy = simulation.busy();

@@ -1,6 +1,8 @@
 //! The calls over the original, and the reader of books.
 pub use original;
 
+#[path = "book_late.rs"]
+pub mod book_late;
 #[path = "calls.rs"]
 pub mod calls;
 #[path = "dump_calls.rs"]

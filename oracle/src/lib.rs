@@ -7,12 +7,14 @@ pub mod bay;
 pub mod blocks;
 pub mod book;
 pub mod books;
+pub mod both;
 pub mod cuts;
 pub mod draft;
 pub mod draw;
 pub mod dump;
 pub mod generate;
 pub mod hot_day;
+pub mod late;
 pub mod plan;
 pub mod program;
 pub mod recording;
@@ -25,6 +27,7 @@ mod faithful;
 #[cfg(product)]
 mod product;
 
+pub use faithful::book_late::book_late;
 pub use faithful::calls::{check, run};
 pub use faithful::dump_calls::{dump, resume};
 pub use faithful::read_book::read_book;

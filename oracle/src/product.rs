@@ -33,6 +33,17 @@ unsafe extern "C" {
         book_len: usize,
         numbers: *mut [u64; 11],
     );
+    fn site_book_late(
+        plan: *const u8,
+        plan_len: usize,
+        dump: *const u8,
+        dump_len: usize,
+        car: *const u8,
+        car_len: usize,
+        new_dump: *mut u8,
+        new_dump_len: usize,
+        numbers: *mut [u64; 11],
+    );
     fn site_read_book(
         book: *const u8,
         book_len: usize,
@@ -78,6 +89,17 @@ pub fn resume(plan: &[u8], dump: &[u8], further: u32, book: &mut [u8]) -> Number
     let (book, book_len) = (book.as_mut_ptr(), book.len());
     // SAFETY: each pointer comes with the length of the memory it points to; there are always eleven numbers.
     unsafe { site_continue(plan, plan_len, dump, dump_len, further, book, book_len, &mut out) };
+    out
+}
+
+pub fn book_late(plan: &[u8], dump: &[u8], car: &[u8], new_dump: &mut [u8]) -> Numbers {
+    let mut out = [UNWRITTEN; 11];
+    let (plan, plan_len) = (plan.as_ptr(), plan.len());
+    let (dump, dump_len) = (dump.as_ptr(), dump.len());
+    let (car, car_len) = (car.as_ptr(), car.len());
+    let (new_dump, new_dump_len) = (new_dump.as_mut_ptr(), new_dump.len());
+    // SAFETY: each pointer comes with the length of the memory it points to; there are always eleven numbers.
+    unsafe { site_book_late(plan, plan_len, dump, dump_len, car, car_len, new_dump, new_dump_len, &mut out) };
     out
 }
 

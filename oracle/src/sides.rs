@@ -1,8 +1,8 @@
 //! The side that is compared with the oracle, and what counts as a difference.
 use crate::arguments::stop;
-use crate::cuts::{self, Tally};
+use crate::both::Tally;
 use crate::generate::Case;
-use crate::{Numbers, program};
+use crate::{Numbers, cuts, late, program};
 use std::cell::RefCell;
 use std::io::Write;
 use std::path::PathBuf;
@@ -11,10 +11,12 @@ use std::sync::LazyLock;
 
 #[cfg(product)]
 pub use crate::product::{
-    check as other_check, dump as other_dump, read_book as other_read_book, resume as other_resume, run as other_run,
+    book_late as other_book_late, check as other_check, dump as other_dump, read_book as other_read_book,
+    resume as other_resume, run as other_run,
 };
 #[cfg(not(product))]
 pub use crate::slipped::{
+    book_late::book_late as other_book_late,
     calls::{check as other_check, run as other_run},
     dump_calls::{dump as other_dump, resume as other_resume},
     read_book::read_book as other_read_book,
@@ -33,6 +35,8 @@ pub enum Side {
     Linked,
     /// By call too: request 1's calls, dump and continue.
     Dumps(RefCell<Tally>),
+    /// By call too: request 7's call, and the runs that are continued from its dumps.
+    Late(RefCell<Tally>),
     /// By standard input and output.
     Program(PathBuf),
 }
@@ -43,6 +47,7 @@ impl Side {
         match self {
             Self::Linked => difference_by_call(case),
             Self::Dumps(tally) => cuts::difference(case, &mut tally.borrow_mut()),
+            Self::Late(tally) => late::difference(case, &mut tally.borrow_mut()),
             Self::Program(path) => difference_by_program(path, case),
         }
     }

@@ -4,5 +4,5 @@ pub use slipped as original;
 #[path = "calls.rs"]
 pub mod calls;
 
-// `dump_calls` and `read_book`, copied at build time, with the slip where it is one of theirs.
+// `dump_calls`, `book_late` and `read_book`, copied at build time, with the slip where it is one of theirs.
 include!(concat!(env!("OUT_DIR"), "/slipped.rs"));

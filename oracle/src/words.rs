@@ -68,22 +68,30 @@ fn parts(draft: &Draft) -> String {
         );
     }
     for block in &draft.vehicles {
-        let _ = writeln!(
-            text,
-            "  vehicle {}: profile {}, {} codes {:?}, SOC {:?} to {:?}, idle {:?} s, arrival {}, wait {}, queue limit {}",
-            u32_at(block, 0),
-            u32_at(block, 4),
-            block[8],
-            &block[9..14],
-            f64_at(block, 16),
-            f64_at(block, 24),
-            f64_at(block, 32),
-            u64_at(block, 40),
-            u64_at(block, 48),
-            u32_at(block, 56)
-        );
+        let _ = writeln!(text, "  {}", vehicle(block));
     }
     text
+}
+
+fn vehicle(block: &[u8]) -> String {
+    format!(
+        "vehicle {}: profile {}, {} codes {:?}, SOC {:?} to {:?}, idle {:?} s, arrival {}, wait {}, queue limit {}",
+        u32_at(block, 0),
+        u32_at(block, 4),
+        block[8],
+        &block[9..14],
+        f64_at(block, 16),
+        f64_at(block, 24),
+        f64_at(block, 32),
+        u64_at(block, 40),
+        u64_at(block, 48),
+        u32_at(block, 56)
+    )
+}
+
+/// A car that is booked late, whatever its bytes are.
+pub fn describe_car(car: &[u8]) -> String {
+    if car.len() == BLOCK { vehicle(car) } else { format!("a car of {} bytes", car.len()) }
 }
 
 /// What the sixteen numbers of a session are.

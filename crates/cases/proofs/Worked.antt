@@ -32,14 +32,16 @@ use Rattle.files.specs.SessionBlocks.{sessionBytes, slot, sessionBlock, session
 use Rattle.files.specs.Book.{bookBytes, sessionsIn}
 use Rattle.files.specs.Book as B
 use Rattle.dump.specs.EventBlocks.{eventBytes, eventSlot, eventBlock, eventBlocks}
-use Rattle.dump.specs.Dump.{table, headerBlock, dumpBytes, dumpOf}
+use Rattle.dump.specs.Dump.{table, headerBlock, dumpBytes, dumpOf, startsWith, isDump}
+use Rattle.late_booking.specs.LongerPlan.{raised, longer}
+use Rattle.late_booking.specs.Call.{bookingAnswer, lateAnswer}
 use Rattle.book_reader.specs.Reader.{damaged, sessionOk, restOk, againstRules, testAnswer, readBook, sessionNumbers}
 use Rattle.plan.specs.declared.answer.Answer.{Answer}
 use Rattle.plan.specs.declared.answer.Answer.the-variants.{Fine, Refused}
-use Rattle.plan.specs.declared.answer.Refusal.the-variants.{Broken, CannotCharge}
+use Rattle.plan.specs.declared.answer.Refusal.the-variants.{Broken, CannotCharge, NotLater}
 use Rattle.plan.specs.declared.answer.Rule.the-variants.{Field}
-use Rattle.cases.specs.Bay.{kwh, Bay, plan, bay, secondCar, atTarget, atOneKw, nacsCapped}
-use Rattle.cases.specs.Cases.{events, steps, run, Result, ifFine, backFrom, result, Worked, _gives_, Holds, worked}
+use Rattle.cases.specs.Bay.{kwh, Bay, plan, bay, secondCar, atTarget, atOneKw, nacsCapped, lateCar}
+use Rattle.cases.specs.Cases.{events, steps, run, bookLate, Result, ifFine, backFrom, ifBooked, result, Worked, _gives_, Holds, worked}
 
 -- ---- a plan's bytes read, checked and run; each line `unfolding` has all that it computes by
 
@@ -69,6 +71,11 @@ back : List ℕ → Result
 unfolding stop dumped bookOf bookBytes B.headerBlock readBook testAnswer damaged againstRules sessionOk restOk sessionsIn sessionsFrom sessionOf sessionNumbers
     wholeBlocks passes block every bytesIn
 back b = backFrom (readBook b)
+
+-- a car booked late
+booked : ℕ → Bay → List ℕ → Answer
+unfolding check dumped isDump startsWith longer raised lateAnswer bookingAnswer
+booked n b car = lateAnswer (plan b) (dumpOf (plan b) n) car 16384
 
 -- ---- each plan is checked once
 
@@ -112,6 +119,16 @@ lead-refused : check (nacsCapped (record { 0 = ratio 1 2 })) ≡ Refused (Broken
 unfolding check
 lead-refused = refl
 
+-- ---- and each booking is answered once
+
+late-fine : booked 1 bay (lateCar 200) ≡ Fine
+unfolding booked
+late-fine = refl
+
+late-refused : booked 1 bay (lateCar 100) ≡ Refused NotLater
+unfolding booked
+late-refused = refl
+
 -- ---- the theorem
 
 -- a run of a plan, by what its check answers
@@ -119,12 +136,17 @@ by : (engine n : ℕ) (b : Bay) {a : Answer} {r : Result} → check b ≡ a → 
 unfolding result check stop
 by engine n b answer given = ap (λ a. ifFine a (stop engine n b)) answer ∙ given
 
+-- a booking, by its answer
+by-booking : (n : ℕ) (b : Bay) (car : List ℕ) {a : Answer} {r : Result} → booked n b car ≡ a → ifBooked a (dumpOf (longer (plan b) car) n) ≡ r → Holds (bookLate n (plan b) car gives r)
+unfolding result booked
+by-booking n b car answer given = ap (λ a. ifBooked a (dumpOf (longer (plan b) car) n)) answer ∙ given
+
 infixr 67 _and_
 _and_ : {w : Worked} {ws : List Worked} → Holds w → All Holds ws → All Holds (w ∷ ws)
 h and hs = also h hs
 
 pub worked-through : All Holds worked
-unfolding worked result stop dumped back
+unfolding worked result stop dumped back booked
 worked-through =
     by events 10 bay bay-fine refl
     and by events 10 (secondCar 1800 10) m2-fine refl
@@ -147,4 +169,6 @@ worked-through =
     and refl
     and refl
     and refl
+    and by-booking 1 bay (lateCar 200) late-fine refl
+    and by-booking 1 bay (lateCar 100) late-refused refl
     and none

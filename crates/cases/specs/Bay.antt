@@ -133,3 +133,7 @@ atOneKw battery =
 -- request 8: a cap on the lead with a Nacs plug, code 5, which the bay's charger and cars have
 abbrev pub nacsCapped : Amperes → Bay
 nacsCapped cap = bayOf (amperes 0 ∷ amperes 0 ∷ amperes 0 ∷ amperes 0 ∷ cap ∷ []) (car 100 1800 10 ∷ [])
+
+-- request 7: the block of a car that comes behind the bay's one car, by its arrival
+abbrev pub lateCar : ℕ → List ℕ
+lateCar arrival = block 5 (vehicle 5 (car arrival 1800 10))

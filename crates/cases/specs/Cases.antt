@@ -1,4 +1,4 @@
--- Rules. M1 to M12 of the paper's bay, and requests 8, 1 and 5 at it, worked through: one list of cases, each with what it gives.
+-- Rules. M1 to M12 of the paper's bay, and requests 8, 1, 5 and 7 at it, worked through: one list of cases, each with what it gives.
 use Prim.Native.Nat.{ℕ, _+_, _-_, _*_}
 use mathlib.Core.Path.{_≡_}
 use mathlib.Core.Bool.{Bool, true, false}
@@ -32,13 +32,15 @@ use Rattle.files.specs.Call.{stopOf, bookOf}
 use Rattle.files.specs.declared.book_session.BookSession.{BookSession}
 use Rattle.plan.specs.declared.answer.Rule.the-variants.{Field}
 use Rattle.plan.specs.declared.answer.Refusal.{Refusal}
-use Rattle.plan.specs.declared.answer.Refusal.the-variants.{Broken, CannotCharge, BookDamaged, BookAgainstRules}
+use Rattle.plan.specs.declared.answer.Refusal.the-variants.{Broken, CannotCharge, BookDamaged, BookAgainstRules, NotLater}
 use Rattle.plan.specs.declared.answer.Answer.{Answer}
 use Rattle.plan.specs.declared.answer.Answer.the-variants.{Fine, Refused}
 use Rattle.dump.specs.Dump.{dumpOf, handledIn}
+use Rattle.late_booking.specs.LongerPlan.{longer}
+use Rattle.late_booking.specs.Call.{lateAnswer}
 use Rattle.book_reader.specs.Reader.{Reading, contents, readBook, sessionNumbers}
 use Rattle.book_reader.specs.Reader as R
-use Rattle.cases.specs.Bay.{kw, kwh, seconds, percent, point, plan, bay, secondCar, atTarget, atOneKw, nacsCapped}
+use Rattle.cases.specs.Bay.{kw, kwh, seconds, percent, point, plan, bay, secondCar, atTarget, atOneKw, nacsCapped, lateCar}
 
 -- ---- what a case is, and what it gives
 
@@ -60,11 +62,13 @@ pub data Case : Type 0 where
   dump : ℕ → List ℕ → Case
   -- a book's bytes read back
   readBack : List ℕ → Case
+  -- a car's block booked into a run of a plan's bytes by events, dumped after so many of them
+  bookLate : ℕ → List ℕ → List ℕ → Case
 
 pub data Result : Type 0 where
   -- the plan is fine; units used, ended, sessions
   stopped : ℕ → Bool → List Session → Result
-  -- the plan or the book is refused
+  -- the plan, the book or the car is refused
   refused : Refusal → Result
   -- duration, energy, peak
   takes : ChargingOutput → Result
@@ -94,12 +98,18 @@ abbrev pub backFrom : Reading → Result
 backFrom (R.refused x) = refused x
 backFrom (contents c) = holds (c .engine) (c .ended) (c .used) (map sessionNumbers (c .sessions))
 
+-- the new dump of a car that was booked
+abbrev pub ifBooked : Answer → List ℕ → Result
+ifBooked Fine new = shown new
+ifBooked (Refused x) new = refused x
+
 unfoldable pub result : Case → Result
 result (run engine allowance plan) = ifFine (checkPlan plan) (stopOf (readPlan plan) engine allowance)
 result (charge battery points start target cap) = takes (integrateOver (curveOf points) battery start target cap)
 result (allot limit states) = caps (map (λ (s : ChargerState). s .cap) (allocate (AtMost limit) (λ k. curveOf (bay .points)) states))
 result (dump n plan) = shown (dumpOf plan n)
 result (readBack book) = backFrom (readBook book)
+result (bookLate n plan car) = ifBooked (lateAnswer plan (dumpOf plan n) car 16384) (dumpOf (longer plan car) n)
 
 infix 68 _gives_
 pub data Worked : Type 0 where
@@ -242,4 +252,8 @@ worked =
     readBack (bookOf (plan bay) events (stopOf (readPlan (plan bay)) events 10)) gives holds events 1 3 (sessionNumbers (firstCarAt 5) ∷ []) ∷
     readBack (set (firstBook 5) 512 5) gives refused BookDamaged ∷
     readBack (firstBook 6) gives refused BookAgainstRules ∷
+    -- request 7: M2's second car booked into M1 after its first event, at 100: its arrival and renege stand among the others; one at 100 is refused by 18
+    bookLate 1 (plan bay) (lateCar 200) gives
+    shows 1 [] (3 ∷ 4 ∷ []) ((200 ∷ 0 ∷ 5 ∷ []) ∷ (1900 ∷ 1 ∷ 4 ∷ []) ∷ (2000 ∷ 1 ∷ 5 ∷ []) ∷ (2020 ∷ 2 ∷ 3 ∷ []) ∷ []) ∷
+    bookLate 1 (plan bay) (lateCar 100) gives refused NotLater ∷
     []

@@ -3,3 +3,4 @@ pub mod Starts
 pub mod Laws
 pub mod Runs
 pub mod Passes
+pub mod ReadBack

@@ -1,20 +1,20 @@
 -- Rules. The dump of a run by events: the state after the last handled event, in blocks. Header, pending events, sessions.
-use Prim.Native.Nat.{ℕ, suc, _+_}
+use Prim.Native.Nat.{ℕ, suc, _+_, _*_, _/_, _%_}
 use mathlib.Core.Bool.{Bool, not, _&&_}
 use mathlib.Core.List.{List, [], _∷_, _++_, map}
 use lib.Dec.{leb, eqb}
-use lib.ListN.{length, getD}
+use lib.ListN.{length, getD, take, drop}
 use Rattle.charger.specs.Lists.{count}
 use Rattle.engine.specs.Plan.{VehiclePlace, ChargerPlace}
 use Rattle.engine.specs.Discrete.{Occupant, noCar, car, isVacant, State, run}
 use Rattle.plan.specs.Bytes.{leAt, bytes, fields, pieces}
 use Rattle.plan.specs.Blocks.{sealed}
-use Rattle.plan.specs.Search.{every}
+use Rattle.plan.specs.Search.{every, each}
 use Rattle.plan.specs.Places.{placeOf}
 use Rattle.plan.specs.declared.places.Kind.the-variants.{Charger, Vehicle}
 use Rattle.files.specs.Read.{readPlan}
 use Rattle.files.specs.BookSession.{bookSessions}
-use Rattle.files.specs.SessionBlocks.{sessionBlocks}
+use Rattle.files.specs.SessionBlocks.{sessionBlocks, sessionOffset}
 use Rattle.dump.specs.EventBlocks.{blocksOfEvents, eventBlocks}
 
 -- ---- the header
@@ -80,3 +80,22 @@ startsWith file b = leb (length file) (length b) && every (λ k. eqb (getD b k 0
 -- some bytes begin with the dump of this plan after the handled count that they name
 unfoldable pub isDump : List ℕ → List ℕ → Bool
 isDump plan b = startsWith (dumpOf plan (handledIn b)) b
+
+-- ---- a dump that is read
+
+abbrev pub eventCount : List ℕ → ℕ
+eventCount b = leAt 2 b 8
+
+-- the 16 bytes of the event at the index k
+abbrev pub eventAt : List ℕ → ℕ → List ℕ
+eventAt b k = take 16 (drop (512 + 512 * (k / 31) + 16 * (k % 31)) b)
+
+unfoldable pub eventsIn : List ℕ → List (List ℕ)
+eventsIn b = each (eventAt b) 0 (eventCount b)
+
+abbrev pub sessionCount : List ℕ → ℕ
+sessionCount b = leAt 2 b 10
+
+-- the 96 bytes of the session at the index k; the sessions follow the blocks of events
+abbrev pub sessionAt : List ℕ → ℕ → List ℕ
+sessionAt b k = take 96 (drop (sessionOffset (512 + 512 * blocksOfEvents (eventCount b)) k) b)

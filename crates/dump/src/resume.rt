@@ -33,7 +33,7 @@ ghost use Rattle.dump.specs.Code.Dumping.{Dumpable};
 ghost use Rattle.dump.specs.Continued.{Unbroken, Reached, InParts, EndedStays, MoreStays};
 
 // Whether the bytes lent begin with the dump of a state.
-fn is_dump(dump: &[u8], plan: &[u8], site: Site, rows: [[bool; 5]; 32], state: State) -> bool
+pub fn is_dump(dump: &[u8], plan: &[u8], site: Site, rows: [[bool; 5]; 32], state: State) -> bool
     requires { ⌜ Dumpable (now plan) (site .vehicles) rows state (site .count) ⌝ }
     ensures { λ r. ⌜ r ≡ startsWith (dumpBytes (now (plan .entry)) (model (site .count) state)) (now (dump .entry)) ⌝ }
 {

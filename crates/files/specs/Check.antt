@@ -20,13 +20,14 @@ abbrev pub pairAnswer : List ℕ → FailingPair → Answer
 pairAnswer plan Nothing = Fine
 pairAnswer plan (Pair v c) = Refused (CannotCharge (placeOf plan Vehicle v) (placeOf plan Charger c))
 
--- the pairs are tested where the blocks are fine
-abbrev pub thenPairs : Answer → Answer → Answer
-thenPairs Fine pairs = pairs
-thenPairs (Refused x) pairs = Refused x
+-- what a first check refuses, or what comes of a second one
+abbrev pub thenCheck : Answer → Answer → Answer
+thenCheck Fine next = next
+thenCheck (Refused x) next = Refused x
 
+-- the pairs are tested where the blocks are fine
 unfoldable pub checkPlan : List ℕ → Answer
-checkPlan plan = thenPairs (checkBlocks plan) (pairAnswer plan (failingPair (readPlan plan)))
+checkPlan plan = thenCheck (checkBlocks plan) (pairAnswer plan (failingPair (readPlan plan)))
 
 -- every block of a plan that is fine is one that is written with its check
 abbrev pub AllSealed : List ℕ → Answer → Type 0

@@ -108,6 +108,13 @@ first-missed f k (suc m) h j a b = go (f k) refl (λ g q. first-missed f (suc k)
       | inr q ↦ next (omega (arith, rw e at h)) q
     ]
 
+-- two tests that agree at each index
+pub first-same : (f g : ℕ → Bool) (k m : ℕ) → ((j : ℕ) → k ≤ j → j < k + m → f j ≡ g j) → firstIndex f k m ≡ firstIndex g k m
+unfolding firstIndex
+first-same f g k zero h = refl
+first-same f g k (suc m) h =
+    rw (h k (omega arith) (omega arith), first-same f g (suc k) m (λ j a b. h j (omega arith) (omega arith)))
+
 -- where every index has it, each one has
 pub every-at : (f : ℕ → Bool) (k m : ℕ) → every f k m ≡ true → (j : ℕ) → k ≤ j → j < k + m → f j ≡ true
 unfolding every
@@ -148,7 +155,8 @@ module _ {A : Type 0} (f : ℕ → A) where
       let e : suc k + i ≡ k + suc i = omega arith in
       rw e at (each-at (suc k) m i d (omega arith))
 
-  each-suc : (k m : ℕ) → each f k (suc m) ≡ each f k m ++ (f (k + m) ∷ [])
+  -- one index more
+  pub each-suc : (k m : ℕ) → each f k (suc m) ≡ each f k m ++ (f (k + m) ∷ [])
   unfolding each
   each-suc k zero = rw add-zero
   each-suc k (suc m) =
@@ -168,6 +176,13 @@ module _ {A : Type 0} (f : ℕ → A) where
   unfolding each
   all-each k zero h = none
   all-each k (suc m) h = also (h k (omega arith) (omega arith)) (all-each (suc k) m (λ i a b. h i (omega arith) (omega arith)))
+
+-- two functions that agree at each index
+pub each-same : {A : Type 0} (f g : ℕ → A) (k m : ℕ) → ((j : ℕ) → k ≤ j → j < k + m → f j ≡ g j) → each f k m ≡ each g k m
+unfolding each
+each-same f g k zero h = refl
+each-same f g k (suc m) h =
+    rw (h k (omega arith) (omega arith), each-same f g (suc k) m (λ j a b. h j (omega arith) (omega arith)))
 
 pub map-each : {A : Type 0} {B : Type 0} (g : A → B) (f : ℕ → A) (k m : ℕ) → map g (each f k m) ≡ each (λ j. g (f j)) k m
 unfolding each

@@ -6,7 +6,7 @@ use Rattle.charger.specs.Lists.{tick}
 use Rattle.plan.specs.declared.answer.Rule.{Rule}
 use Rattle.plan.specs.declared.answer.Rule.the-variants.{Length, Check, Header, Field, NoPoint, EqualSoc, UsedId, NoProfile}
 use Rattle.plan.specs.declared.answer.Refusal.{Refusal}
-use Rattle.plan.specs.declared.answer.Refusal.the-variants.{EngineAbove, AllowanceAbove, BookUnder, Broken, CannotCharge, DumpUnder, OtherDump, BookDamaged, BookAgainstRules}
+use Rattle.plan.specs.declared.answer.Refusal.the-variants.{EngineAbove, AllowanceAbove, BookUnder, Broken, CannotCharge, DumpUnder, OtherDump, BookDamaged, BookAgainstRules, VehiclesFull, NotLater}
 use Rattle.plan.specs.declared.answer.Answer.{Answer}
 use Rattle.plan.specs.declared.answer.Answer.the-variants.{Fine, Refused}
 use Rattle.plan.specs.declared.answer.RunAnswer.{RunAnswer}
@@ -34,6 +34,8 @@ number DumpUnder = 13
 number OtherDump = 14
 number BookDamaged = 15
 number BookAgainstRules = 16
+number VehiclesFull = 17
+number NotLater = 18
 
 abbrev pub place : Refusal → ℕ
 place EngineAbove = 0
@@ -45,6 +47,8 @@ place DumpUnder = 0
 place OtherDump = 0
 place BookDamaged = 0
 place BookAgainstRules = 0
+place VehiclesFull = 0
+place NotLater = 0
 
 abbrev pub otherPlace : Refusal → ℕ
 otherPlace EngineAbove = 0
@@ -56,6 +60,8 @@ otherPlace DumpUnder = 0
 otherPlace OtherDump = 0
 otherPlace BookDamaged = 0
 otherPlace BookAgainstRules = 0
+otherPlace VehiclesFull = 0
+otherPlace NotLater = 0
 
 -- ---- the eleven numbers of each answer: number, places, units used, ended, the six counts
 

@@ -18,7 +18,7 @@ pub enum Rule {
 
 // Why a call is refused, in number order: the engine, the allowance, a book that is too short; a rule refuses a block, by its
 // place in the file; a vehicle's block and a charger's cannot charge; a dump that is too short, or not one of the plan; a book
-// whose blocks are damaged, or that is against the rules.
+// whose blocks are damaged, or that is against the rules; a car for which there is no place, or that comes too early to be booked late.
 pub enum Refusal {
     EngineAbove,
     AllowanceAbove,
@@ -29,6 +29,8 @@ pub enum Refusal {
     OtherDump,
     BookDamaged,
     BookAgainstRules,
+    VehiclesFull,
+    NotLater,
 }
 
 // What a check answers.
@@ -85,6 +87,8 @@ pub fn number(refusal: Refusal) -> u64
         Refusal::OtherDump => 14,
         Refusal::BookDamaged => 15,
         Refusal::BookAgainstRules => 16,
+        Refusal::VehiclesFull => 17,
+        Refusal::NotLater => 18,
     }
 }
 
@@ -102,6 +106,8 @@ pub fn place(refusal: Refusal) -> usize
         Refusal::OtherDump => 0,
         Refusal::BookDamaged => 0,
         Refusal::BookAgainstRules => 0,
+        Refusal::VehiclesFull => 0,
+        Refusal::NotLater => 0,
     }
 }
 
@@ -119,6 +125,8 @@ pub fn other_place(refusal: Refusal) -> usize
         Refusal::OtherDump => 0,
         Refusal::BookDamaged => 0,
         Refusal::BookAgainstRules => 0,
+        Refusal::VehiclesFull => 0,
+        Refusal::NotLater => 0,
     }
 }
 

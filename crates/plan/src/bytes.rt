@@ -67,6 +67,18 @@ pub fn put(s: &mut [u8], at: usize, n: usize, v: u64)
     }
 }
 
+// Stores the bytes of `from` into s from at.
+pub fn put_bytes(s: &mut [u8], at: usize, from: &[u8])
+    requires { ⌜ at + length (now from) ≤ length (now s) ⌝ }
+    ensures { λ _. ⌜ now (s .exit) ≡ sets (now (s .entry)) at (now (from .entry)) ⌝ }
+{
+    let mut i = 0;
+    while i < from.len() {
+        s[at + i] = from[i];
+        i += 1;
+    }
+}
+
 // Stores fields, one after the other, into s from at: a width, a value, a width, a value, ..
 pub fn put_fields(s: &mut [u8], at: usize, f: &[u64])
     requires { ⌜ at + length (fields (now f)) ≤ length (now s) ⌝ }

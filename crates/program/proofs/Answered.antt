@@ -13,7 +13,7 @@ use Rattle.files.specs.Book.{sessionCount, written}
 use Rattle.files.specs.Demand.{ReadsBack}
 use Rattle.plan.specs.declared.answer.Rule.the-variants.{Length, Check, Header, Field, NoPoint, EqualSoc, UsedId, NoProfile}
 use Rattle.plan.specs.declared.answer.Refusal.{Refusal}
-use Rattle.plan.specs.declared.answer.Refusal.the-variants.{EngineAbove, AllowanceAbove, BookUnder, Broken, CannotCharge, DumpUnder, OtherDump, BookDamaged, BookAgainstRules}
+use Rattle.plan.specs.declared.answer.Refusal.the-variants.{EngineAbove, AllowanceAbove, BookUnder, Broken, CannotCharge, DumpUnder, OtherDump, BookDamaged, BookAgainstRules, VehiclesFull, NotLater}
 use Rattle.plan.specs.declared.answer.RunAnswer.{RunAnswer}
 use Rattle.plan.specs.declared.answer.RunAnswer.the-variants.{Refused, Stopped}
 use Rattle.files.proofs.ReadBack.{length-book}
@@ -46,6 +46,8 @@ refused DumpUnder e = omega arith
 refused OtherDump e = omega arith
 refused BookDamaged e = omega arith
 refused BookAgainstRules e = omega arith
+refused VehiclesFull e = omega arith
+refused NotLater e = omega arith
 
 module _ (plan : List ℕ) (engine n : ℕ) (out out′ : List ℕ) where
   -- number 0: the book stands in the buffer, and its header tells its length

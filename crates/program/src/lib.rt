@@ -1,6 +1,7 @@
 // What the program writes for an input: an engine byte, a 32-bit allowance and a plan give the book's blocks, or the refusal.
 use files::call::run;
 use plan::answer::run_numbers;
+use plan::bytes::put_bytes;
 ghost use mathlib.Core.Path.{_≡_};
 ghost use mathlib.Core.Bool.{cond};
 ghost use mathlib.Core.List.{[], _∷_, _++_};
@@ -45,18 +46,6 @@ fn book_length(book: &[u8]) -> usize
     512 + 512 * ((sessions as usize + 4) / 5)
 }
 
-// Stores bytes into out from at.
-fn put(out: &mut [u8], at: usize, bytes: &[u8])
-    requires { ⌜ at + length (now bytes) ≤ length (now out) ⌝ }
-    ensures { λ _. ⌜ now (out .exit) ≡ sets (now (out .entry)) at (now (bytes .entry)) ⌝ }
-{
-    let mut i = 0;
-    while i < bytes.len() {
-        out[at + i] = bytes[i];
-        i += 1;
-    }
-}
-
 // Stores a number in decimal and the byte `last` into out from at, and gives the place behind them.
 fn put_decimal(out: &mut [u8], at: usize, n: u64, last: u8) -> usize
     requires { ⌜ at + 21 ≤ length (now out) ⌝ }
@@ -66,7 +55,7 @@ fn put_decimal(out: &mut [u8], at: usize, n: u64, last: u8) -> usize
 {
     let mut digits = [0u8; 20];
     let k = io::decimal(n, &mut digits);
-    put(out, at, &digits[..k]);
+    put_bytes(out, at, &digits[..k]);
     out[at + k] = last;
     at + k + 1
 }

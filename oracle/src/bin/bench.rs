@@ -1,11 +1,12 @@
 //! Times the original and the product on the same inputs, by call, in one process.
 use oracle::arguments::{Words, stop};
 use oracle::bay::{bay, brief};
+use oracle::blocks::{BLOCK, Block, put, seal, u32_at};
 use oracle::book::LEAST_BOOK;
 use oracle::draft::{Car, Draft, charger, profile};
 use oracle::draw::Draw;
 use oracle::dump::LEAST_DUMP;
-use oracle::sides::{OTHER, other_check, other_dump, other_read_book, other_resume, other_run};
+use oracle::sides::{OTHER, other_book_late, other_check, other_dump, other_read_book, other_resume, other_run};
 use oracle::{Header, Numbers, Sessions, generate, program};
 use std::hint::black_box;
 
@@ -29,6 +30,8 @@ enum Call {
     Dump(u32),
     /// From the dump after so many events to the end.
     Continue(u32),
+    /// With the dump after so many events.
+    BookLate(u32),
     /// The book of the run by events.
     ReadBook,
 }
@@ -43,6 +46,7 @@ struct Side {
     run: fn(&[u8], u32, u32, &mut [u8]) -> Numbers,
     dump: fn(&[u8], u32, u32, &mut [u8], &mut [u8]) -> Numbers,
     resume: fn(&[u8], &[u8], u32, &mut [u8]) -> Numbers,
+    book_late: fn(&[u8], &[u8], &[u8], &mut [u8]) -> Numbers,
     read_book: fn(&[u8], &mut Header, &mut Sessions) -> Numbers,
 }
 
@@ -52,9 +56,17 @@ const SIDES: [Side; 2] = [
         run: oracle::run,
         dump: oracle::dump,
         resume: oracle::resume,
+        book_late: oracle::book_late,
         read_book: oracle::read_book,
     },
-    Side { check: other_check, run: other_run, dump: other_dump, resume: other_resume, read_book: other_read_book },
+    Side {
+        check: other_check,
+        run: other_run,
+        dump: other_dump,
+        resume: other_resume,
+        book_late: other_book_late,
+        read_book: other_read_book,
+    },
 ];
 const MOST: u32 = 10_000_000;
 
@@ -96,6 +108,8 @@ fn shown(work: &Work, nanoseconds: f64) -> String {
 struct Lent {
     book: Vec<u8>,
     dump: Vec<u8>,
+    car: Block,
+    new_dump: Vec<u8>,
     header: Header,
     sessions: Sessions,
 }
@@ -104,11 +118,14 @@ impl Lent {
     fn to(work: &Work) -> Self {
         let (mut book, mut dump) = (vec![0; LEAST_BOOK], vec![0; LEAST_DUMP]);
         match work.call {
-            Call::Continue(handled) => drop(oracle::dump(&work.plan, 0, handled, &mut book, &mut dump)),
+            Call::Continue(handled) | Call::BookLate(handled) => {
+                oracle::dump(&work.plan, 0, handled, &mut book, &mut dump);
+            }
             Call::ReadBook => book = program::output(&program::input(0, MOST, &work.plan)).0,
             _ => {}
         }
-        Self { book, dump, header: [0; 4], sessions: [0; 1024] }
+        let new_dump = vec![0; LEAST_DUMP];
+        Self { book, dump, car: late_car(&work.plan), new_dump, header: [0; 4], sessions: [0; 1024] }
     }
 
     fn call(&mut self, side: &Side, work: &Work) -> Numbers {
@@ -118,6 +135,10 @@ impl Lent {
             Call::Run(engine, allowance) => (side.run)(plan, engine, allowance, book),
             Call::Dump(allowance) => (side.dump)(plan, 0, allowance, book, black_box(&mut self.dump)),
             Call::Continue(_) => (side.resume)(plan, black_box(&self.dump), MOST, book),
+            Call::BookLate(_) => {
+                let (dump, car) = (black_box(&self.dump), black_box(&self.car));
+                (side.book_late)(plan, dump, car, black_box(&mut self.new_dump))
+            }
             Call::ReadBook => (side.read_book)(book, black_box(&mut self.header), black_box(&mut self.sessions)),
         }
     }
@@ -207,6 +228,16 @@ fn works() -> Vec<Work> {
     });
     for (name, call) in [("dump after 80 events", Call::Dump(80)), ("continue after 80 events", Call::Continue(80))] {
         works.push(Work { name: format!("{name}: 64 vehicles, 2 chargers"), plan: busy_site(2), call, per: Per::Call });
+    }
+    for chargers in [2, 32] {
+        let mut draft = site(chargers);
+        draft.vehicles.truncate(63);
+        works.push(Work {
+            name: format!("late booking after 80 events: 63 vehicles, {chargers} chargers"),
+            plan: draft.bytes(),
+            call: Call::BookLate(80),
+            per: Per::Call,
+        });
     }
     for (sessions, plan) in [("64 sessions", busy_site(2)), ("one session", bay(&[Car::default()]).bytes())] {
         works.push(Work { name: format!("read a book of {sessions}"), plan, call: Call::ReadBook, per: Per::Call });
@@ -334,6 +365,17 @@ fn site(chargers: usize) -> Draft {
             return draft;
         }
     }
+}
+
+/// A car like the plan's last, with an id of its own, that arrives as late as a car may.
+fn late_car(plan: &[u8]) -> Block {
+    let vehicles = Draft::of(plan).unwrap().vehicles;
+    let Some(mut car) = vehicles.last().copied() else { return [0; BLOCK] };
+    let id = (0..).find(|id| vehicles.iter().all(|vehicle| u32_at(vehicle, 0) != *id)).unwrap();
+    put(&mut car, 0, &id.to_le_bytes());
+    put(&mut car, 40, &1_000_000u64.to_le_bytes());
+    seal(&mut car, plan.len() / BLOCK + 1);
+    car
 }
 
 fn busy_site(chargers: usize) -> Vec<u8> {

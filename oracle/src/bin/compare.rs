@@ -6,21 +6,23 @@
 //! `--count` goes on past differences and says how many cases differ.
 //! `--dumps` compares request 1's calls, dump and continue, at every cut of each case's run by events.
 //! `--books` compares request 5's call on books of drawn lists and of runs, and on damaged ones.
-//! `--sweep` damages a small plan, or book, at every byte in place of drawn cases.
+//! `--late` compares request 7's call, a late booking, at cuts of each case's run by events.
+//! `--sweep` damages a small plan, or book, or the block of a late car, at every byte in place of drawn cases.
 //! `--trace` names each case on standard error before it runs, for a side that may crash or hang.
 use oracle::arguments::Words;
-use oracle::books;
+use oracle::both::Tally;
 use oracle::draw::Draw;
 use oracle::generate::{self, Case, SHAPES};
 use oracle::shrink::shrink;
 use oracle::sides::{OTHER, Side, difference_on_input};
-use oracle::{blocks, program, words};
+use oracle::{blocks, books, late, program, words};
 use std::collections::BTreeMap;
+use std::ops::Range;
 use std::path::PathBuf;
 use std::process::ExitCode;
 use std::time::Instant;
 
-const USAGE: &str = "compare [--cases N] [--seed S] [--from INDEX] [--shape NAME] [--dumps | --books | --program PATH] [--sweep] [--count] [--trace]";
+const USAGE: &str = "compare [--cases N] [--seed S] [--from INDEX] [--shape NAME] [--dumps | --books | --late | --program PATH] [--sweep] [--count] [--trace]";
 
 struct Options {
     cases: u64,
@@ -30,6 +32,7 @@ struct Options {
     program: Option<PathBuf>,
     dumps: bool,
     books: bool,
+    late: bool,
     sweep: bool,
     count: bool,
     trace: bool,
@@ -44,6 +47,7 @@ fn options() -> Options {
         program: None,
         dumps: false,
         books: false,
+        late: false,
         sweep: false,
         count: false,
         trace: false,
@@ -58,14 +62,16 @@ fn options() -> Options {
             "--program" => options.program = Some(words.needed("PATH").into()),
             "--dumps" => options.dumps = true,
             "--books" => options.books = true,
+            "--late" => options.late = true,
             "--sweep" => options.sweep = true,
             "--count" => options.count = true,
             "--trace" => options.trace = true,
             _ => words.wrong(format!("{word} is unknown")),
         }
     }
-    if [options.dumps, options.books, options.program.is_some()].into_iter().filter(|given| *given).count() > 1 {
-        words.wrong("--dumps, --books and --program are compared one at a time");
+    let ways = [options.dumps, options.books, options.late, options.program.is_some()];
+    if ways.into_iter().filter(|given| *given).count() > 1 {
+        words.wrong("--dumps, --books, --late and --program are compared one at a time");
     }
     if options.books && options.shape.is_some() {
         words.wrong("--books has cases of every shape");
@@ -86,10 +92,14 @@ fn main() -> ExitCode {
     if options.books {
         return compare_books(&options);
     }
+    if options.late && options.sweep {
+        return sweep_late(&options);
+    }
     let started = Instant::now();
     let side = match &options.program {
         Some(path) => Side::Program(path.clone()),
         None if options.dumps => Side::Dumps(Default::default()),
+        None if options.late => Side::Late(Default::default()),
         None => Side::Linked,
     };
     let name = options.program.as_ref().map_or(OTHER.to_string(), |path| path.display().to_string());
@@ -106,10 +116,10 @@ fn main() -> ExitCode {
         true => Box::new(sweep(options.seed)),
         false => {
             let end = options.from.saturating_add(options.cases);
-            let (seed, shape, dumps) = (options.seed, options.shape.clone(), options.dumps);
+            let (seed, shape, dumped) = (options.seed, options.shape.clone(), options.dumps || options.late);
             Box::new((options.from..end).map(move |index| match &shape {
                 Some(name) => generate::shaped(name, &mut Draw::new(seed, index)),
-                None if dumps => generate::for_dumps(seed, index),
+                None if dumped => generate::for_dumps(seed, index),
                 None => generate::case(seed, index),
             }))
         }
@@ -129,11 +139,18 @@ fn main() -> ExitCode {
         *answers.entry(oracle::check(&case.plan)[0]).or_insert(0) += 1;
     }
     let mut answers = format!("answers of check by number: {}", by_number(&answers));
-    if let Side::Dumps(tally) = &side {
-        let tally = tally.borrow();
-        answers += &format!("\nof dump: {}; of continue: {}", by_number(&tally.dumps), by_number(&tally.continued));
+    if let Side::Dumps(tally) | Side::Late(tally) = &side {
+        answers += &format!("\n{}", of_calls(&tally.borrow()));
     }
     summed_up(compared, different, started, &answers)
+}
+
+/// The answers of each call that was made.
+fn of_calls(tally: &Tally) -> String {
+    let calls = [("dump", &tally.dumps), ("late booking", &tally.booked), ("continue", &tally.continued)];
+    let made = calls.into_iter().filter(|(_, answers)| !answers.is_empty());
+    let answers: Vec<String> = made.map(|(name, answers)| format!("of {name}: {}", by_number(answers))).collect();
+    answers.join("; ")
 }
 
 fn summed_up(compared: u64, different: u64, started: Instant, answers: &str) -> ExitCode {
@@ -147,29 +164,50 @@ fn summed_up(compared: u64, different: u64, started: Instant, answers: &str) -> 
 
 /// Request 5, whose cases are no plans.
 fn compare_books(options: &Options) -> ExitCode {
-    let started = Instant::now();
-    println!("the oracle and {OTHER}, seed {}", options.seed);
     let indices = match options.sweep {
         true => 0..books::steps(),
         false => options.from..options.from.saturating_add(options.cases),
     };
     let compare = if options.sweep { books::swept } else { books::difference };
     let mut tally = books::Tally::new();
+    let described = |books::Difference { what, book }| {
+        let [said, digits] = [words::describe_book(&book), words::hex(&book)];
+        format!("{what}\n{said}\nthe book, [n] being n zero bytes:\n{digits}")
+    };
+    let differs = |index, tally: &mut books::Tally| compare(options.seed, index, tally).map(described);
+    by_index(options, indices, &mut tally, differs, |tally| format!("answers by number: {}", by_number(tally)))
+}
+
+/// Request 7 on one small plan, with every byte of the car.
+fn sweep_late(options: &Options) -> ExitCode {
+    let differs = |index, tally: &mut Tally| late::swept(options.seed, index, tally);
+    by_index(options, 0..late::steps(), &mut Tally::default(), differs, of_calls)
+}
+
+/// Compares by index alone, and says at the end what the tally has.
+fn by_index<T>(
+    options: &Options,
+    indices: Range<u64>,
+    tally: &mut T,
+    differs: impl Fn(u64, &mut T) -> Option<String>,
+    answers: impl Fn(&T) -> String,
+) -> ExitCode {
+    let started = Instant::now();
+    println!("the oracle and {OTHER}, seed {}", options.seed);
     let (mut compared, mut different) = (0, 0);
     for index in indices {
         if options.trace {
             eprintln!("case {index}");
         }
         compared += 1;
-        let Some(difference) = compare(options.seed, index, &mut tally) else { continue };
+        let Some(what) = differs(index, tally) else { continue };
         different += 1;
         if !options.count {
-            println!("DIFFERENCE in case {index}: {}\n{}", difference.what, words::describe_book(&difference.book));
-            println!("the book, [n] being n zero bytes:\n{}", words::hex(&difference.book));
+            println!("DIFFERENCE in case {index}: {what}");
             return ExitCode::FAILURE;
         }
     }
-    summed_up(compared, different, started, &format!("answers by number: {}", by_number(&tally)))
+    summed_up(compared, different, started, &answers(tally))
 }
 
 fn by_number(answers: &BTreeMap<u64, u64>) -> String {
@@ -180,7 +218,7 @@ fn by_number(answers: &BTreeMap<u64, u64>) -> String {
 fn report(side: &Side, index: u64, case: Case, what: &str) {
     // Dumps are of the run by events, whatever the case's own engine.
     let described = |case: &Case| match side {
-        Side::Dumps(_) => words::describe(&Case { engine: 0, allowance: 10_000_000, ..case.clone() }),
+        Side::Dumps(_) | Side::Late(_) => words::describe(&Case { engine: 0, allowance: 10_000_000, ..case.clone() }),
         _ => words::describe(case),
     };
     println!("DIFFERENCE in case {index}: {what}\n{}", described(&case));

@@ -1,7 +1,6 @@
 //! Bytes that are not the plan's dump, or not it alone.
-use super::{Bench, Call, Found};
-use crate::blocks::{BLOCK, CHECK, put, put_f64, reseal, u32_at, u64_at};
-use crate::draft::Draft;
+use crate::blocks::{BLOCK, CHECK, put, reseal};
+use crate::both::{Bench, Call, Found};
 use crate::dump::USED;
 use std::fmt::Display;
 
@@ -22,11 +21,11 @@ impl Bench<'_> {
     fn given(&mut self, plan: &[u8], bytes: &[u8], expected: Option<u64>, what: impl Display) -> Found {
         let further = self.draw.pick(&[0, 1, 5, 10_000_000]);
         let call = Call::Continue { plan, dump: bytes, further, book: self.book() };
-        let left = self.alike(call, &what)?;
-        match expected.filter(|number| *number != left.numbers[0]) {
-            Some(number) => Err(format!("{what}: {call}: both sides answer {}, not {number}", left.numbers[0])),
-            None => Ok(()),
-        }
+        match expected {
+            Some(number) => self.answered(call, number, what)?,
+            None => self.alike(call, what)?,
+        };
+        Ok(())
     }
 
     /// One byte changed, with its block's check as it was and made good again.
@@ -112,34 +111,5 @@ impl Bench<'_> {
             self.given(&other, dump, None, format_args!("the dump after {cut} events, with a plan altered a little"))?;
         }
         Ok(())
-    }
-
-    /// The plan with one field of one vehicle or charger changed, two vehicles swapped or one gone.
-    fn altered(&mut self, plan: &[u8]) -> Vec<u8> {
-        let mut draft = Draft::of(plan).expect("an accepted plan");
-        if let Some(place) = draft.chargers.len().checked_sub(1).filter(|_| self.draw.one_in(4)) {
-            let charger = &mut draft.chargers[self.draw.among(0, place as u64) as usize];
-            put_f64(charger, self.draw.pick(&[16, 24, 32]), self.draw.float(50.0, 1_024.0));
-            return draft.bytes();
-        }
-        let count = draft.vehicles.len() as u64;
-        if count == 0 {
-            draft.set_limit(50.0);
-            return draft.bytes();
-        }
-        let [one, other] = [0; 2].map(|_| self.draw.below(count) as usize);
-        let vehicle = &mut draft.vehicles[one];
-        let [id, arrival, wait] = [u64::from(u32_at(vehicle, 0)), u64_at(vehicle, 40), u64_at(vehicle, 48)];
-        match self.draw.below(8) {
-            0 => put(vehicle, 0, &(id + 1_000).to_le_bytes()[..4]),
-            1 => put_f64(vehicle, 24, self.draw.float(0.0, 1.0)),
-            2 => put_f64(vehicle, 32, self.draw.float(0.0, 20.0)),
-            3 => put(vehicle, 40, &(arrival + 1).to_le_bytes()),
-            4 => put(vehicle, 48, &(wait + 1).to_le_bytes()),
-            5 => put(vehicle, 56, &self.draw.below(3).to_le_bytes()[..4]),
-            6 => draft.vehicles.swap(one, other),
-            _ => drop(draft.vehicles.remove(one)),
-        }
-        draft.bytes()
     }
 }

@@ -1,5 +1,7 @@
 //! The bay of document 01's worked cases, and short ways to run it.
 #![allow(dead_code, unused_imports)]
+pub mod dumps;
+
 use oracle::Numbers;
 pub use oracle::bay::{bay, brief};
 use oracle::blocks::{BLOCK, put};

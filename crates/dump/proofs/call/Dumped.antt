@@ -17,7 +17,7 @@ use Rattle.plan.specs.declared.answer.RunAnswer.the-variants.{Refused, Stopped}
 use Rattle.plan.specs.declared.answer.Totals.{Totals}
 use Rattle.files.specs.Read.{readPlan}
 use Rattle.files.specs.Pairs.{failingPair}
-use Rattle.files.specs.Check.{checkPlan, pairAnswer, thenPairs}
+use Rattle.files.specs.Check.{checkPlan, pairAnswer, thenCheck}
 use Rattle.files.specs.Book.{written}
 use Rattle.files.specs.Call.{totals, ifFine, bookAfter}
 use Rattle.files.specs.Demand.{OfRun, ReadsBack}
@@ -81,7 +81,7 @@ module _ (plan : List ℕ) (engine n room space : ℕ) where
 
         module _ (d : 16384 ≤ space) where
           pub by-plan : (x : Answer) → checkBlocks plan ≡ x
-              → dumpAnswer plan engine n room space ≡ ifFine (thenPairs x (pairAnswer plan (failingPair (readPlan plan)))) (Stopped (totals (byEvents (readPlan plan) n)))
+              → dumpAnswer plan engine n room space ≡ ifFine (thenCheck x (pairAnswer plan (failingPair (readPlan plan)))) (Stopped (totals (byEvents (readPlan plan) n)))
           unfolding dumpAnswer checkPlan
           by-plan x h = rw (le-ltb 0 engine e, le-ltb 10000000 n a, le-ltb room 7168 b, le-ltb space 16384 d, h)
 

@@ -34,7 +34,7 @@ module _ (plan : List ℕ) (s : State) (rest : List ℕ) where
   abbrev sessions : List ℕ
   sessions = sessionBlocks (2 + many) (bookSessions plan (s .site .sessions))
 
-  parts : dumpBytes plan s ++ rest ≡ header ++ (events ++ (sessions ++ rest))
+  pub parts : dumpBytes plan s ++ rest ≡ header ++ (events ++ (sessions ++ rest))
   unfolding dumpBytes
   parts = rw (append-assoc header (events ++ sessions) rest, append-assoc events sessions rest)
 

@@ -1,8 +1,8 @@
 -- Bytes that begin with those of a file. Assumes nothing.
-use mathlib.Core.Path.{_≡_, refl, sym, ap, _∙_}
+use mathlib.Core.Path.{_≡_, sym, ap, _∙_}
 use mathlib.Core.Bool.{Bool, true, false}
 use mathlib.Core.List.{List, _++_}
-use Prim.Native.Nat.{ℕ, zero, suc, _+_, _≤_, _<_}
+use Prim.Native.Nat.{ℕ, _<_}
 use native.Mathlib.Omega.{arith}
 use borrow.Author.Tests.{le-leb, lt-leb, leb-true, eq-eqb, eqb-true}
 use lib.Dec.{leb, eqb}
@@ -10,7 +10,7 @@ use lib.ListN.{length, getD, take, drop, length-append, take-append-drop, List·
 use lib.Seq.{ext-getD, getD-take, length-take-le}
 use Rattle.charger.proofs.Lists.{and-true}
 use Rattle.plan.specs.Search.{every}
-use Rattle.plan.proofs.SearchLaws.{every-at}
+use Rattle.plan.proofs.SearchLaws.{every-at, every-of}
 use Rattle.plan.proofs.bytes.Laws.{Begins}
 use Rattle.dump.specs.Dump.{startsWith}
 
@@ -26,17 +26,12 @@ starts file b e =
     ext-getD 0 (take n b) file long (λ k h. getD-take n b k 0 (omega arith) ∙ eqb-true _ _ (every-at same 0 n (both .1) k (omega arith) (omega arith))) in
     (drop n b, sym (take-append-drop n b) ∙ ap (λ (l : List ℕ). l ++ drop n b) first)
 
-every-true : (f : ℕ → Bool) (k m : ℕ) → ((j : ℕ) → k ≤ j → j < k + m → f j ≡ true) → every f k m ≡ true
-unfolding every
-every-true f k zero h = refl
-every-true f k (suc m) h = rw (h k (omega arith) (omega arith), every-true f (suc k) m (λ j a b. h j (omega arith) (omega arith)))
-
 -- and such bytes begin with the file
 pub starts-with : (file rest : List ℕ) → startsWith file (file ++ rest) ≡ true
 unfolding startsWith
 starts-with file rest =
     rw (le-leb (length file) (length (file ++ rest)) (rw length-append (omega arith)))
-    (every-true (λ (k : ℕ). eqb (getD (file ++ rest) k 0) (getD file k 0)) 0 (length file) (λ j a b. eq-eqb _ _ (List·getD-append file rest 0 j (omega arith))))
+    (every-of (λ (k : ℕ). eqb (getD (file ++ rest) k 0) (getD file k 0)) 0 (length file) (λ j a b. eq-eqb _ _ (List·getD-append file rest 0 j (omega arith))))
 
 -- shorter bytes do not
 pub too-short : (file b : List ℕ) → length b < length file → startsWith file b ≡ false

@@ -51,7 +51,7 @@ length-event : (plan : List ℕ) (e : Event) → length (eventBytes plan e) ≡ 
 unfolding eventBytes fields bytes
 length-event plan e = refl
 
-length-slot : (plan : List ℕ) (es : List Event) (k : ℕ) → length (eventSlot plan es k) ≡ 16
+pub length-slot : (plan : List ℕ) (es : List Event) (k : ℕ) → length (eventSlot plan es k) ≡ 16
 unfolding eventSlot
 length-slot plan [] k = length-bytes 16 0
 length-slot plan (e ∷ es) zero = length-event plan e

@@ -23,7 +23,7 @@ use Rattle.plan.specs.declared.answer.RunAnswer.the-variants.{Refused, Stopped}
 use Rattle.plan.specs.declared.answer.Totals.{Totals}
 use Rattle.files.specs.Read.{readPlan}
 use Rattle.files.specs.Pairs.{failingPair}
-use Rattle.files.specs.Check.{checkPlan, pairAnswer, thenPairs}
+use Rattle.files.specs.Check.{checkPlan, pairAnswer, thenCheck}
 use Rattle.files.specs.Book.{written}
 use Rattle.files.specs.Call.{totals, ifFine, bookOf, bookAfter}
 use Rattle.files.specs.Demand.{OfRun, ReadsBack}
@@ -55,7 +55,7 @@ same-stop : (p : Plan) (n m : ℕ) → D.run p n ≡ D.run p m → byEvents p n 
 same-stop p n m e = ap (stopAt p) e
 
 -- the events handled at n, and then k more, is n + k
-in-two : (p : Plan) (n k : ℕ) → D.run p (D.run p n .handled + k) ≡ D.run p (n + k)
+pub in-two : (p : Plan) (n k : ℕ) → D.run p (D.run p n .handled + k) ≡ D.run p (n + k)
 in-two p n k =
     after-add p (D.run p n .handled) k (D.start p)
     ∙ ap (D.after p k) (run-handled p n)
@@ -99,7 +99,7 @@ module _ (plan dump : List ℕ) (further room : ℕ) where
 
     module _ (b : 7168 ≤ room) where
       pub by-plan : (x : Answer) → checkBlocks plan ≡ x
-          → continuedAnswer plan dump further room ≡ ifFine (thenPairs x (pairAnswer plan (failingPair (readPlan plan)))) (cond (isDump plan dump) (Stopped ran) (Refused OtherDump))
+          → continuedAnswer plan dump further room ≡ ifFine (thenCheck x (pairAnswer plan (failingPair (readPlan plan)))) (cond (isDump plan dump) (Stopped ran) (Refused OtherDump))
       unfolding continuedAnswer checkPlan
       by-plan x h = rw (le-ltb 10000000 further a, le-ltb room 7168 b, h)
 

@@ -7,11 +7,11 @@ use Rattle.dump_vectors.proofs.replay.Statement.{statement}
 use Rattle.dump_vectors.proofs.replay.Tie as tie
 
 abbrev Inv-loop : tie.InvT-loop
-Inv-loop recorded plan₀ book₀ dump₀ calls at₀ k₀ plan book dump at k =
-    (k ≤ calls) × ((length plan ≡ 65536) × ((length book ≡ 7680) × (length dump ≡ 16640)))
+Inv-loop recorded plan₀ book₀ dump₀ car₀ new₀ calls at₀ k₀ plan book dump car new at k =
+    (k ≤ calls) × ((length plan ≡ 65536) × ((length book ≡ 7680) × ((length dump ≡ 16640) × ((length car ≡ 1024) × (length new ≡ 16640)))))
 
 abbrev μ-loop : tie.MeasureT-loop
-μ-loop recorded plan₀ book₀ dump₀ calls at₀ k₀ plan book dump at k = calls - k
+μ-loop recorded plan₀ book₀ dump₀ car₀ new₀ calls at₀ k₀ plan book dump car new at k = calls - k
 
 u16-at-requires : tie.Need-u16-at-requires Inv-loop μ-loop
 u16-at-requires c κs = search needs
@@ -27,6 +27,12 @@ slice-aggregate-replay-call-2 c = search needs
 
 slice-aggregate-replay-call-3 : tie.Need-slice-aggregate-replay-call-3 Inv-loop μ-loop
 slice-aggregate-replay-call-3 c = search needs
+
+slice-aggregate-replay-call-4 : tie.Need-slice-aggregate-replay-call-4 Inv-loop μ-loop
+slice-aggregate-replay-call-4 c = search needs
+
+slice-aggregate-replay-call-5 : tie.Need-slice-aggregate-replay-call-5 Inv-loop μ-loop
+slice-aggregate-replay-call-5 c = search needs
 
 replay-call-requires : tie.Need-replay-call-requires Inv-loop μ-loop
 replay-call-requires c κs = search needs
@@ -54,6 +60,8 @@ replay-spec =
     slice-aggregate-replay-call
     slice-aggregate-replay-call-2
     slice-aggregate-replay-call-3
+    slice-aggregate-replay-call-4
+    slice-aggregate-replay-call-5
     replay-call-requires
     add-k
     loop-less

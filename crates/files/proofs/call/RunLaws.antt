@@ -27,7 +27,7 @@ use Rattle.files.specs.Call.{stopOf, totals, ifFine, answerOf}
 use Rattle.files.specs.Code.Running.{Runnable}
 use Rattle.plan.specs.Plan.{checkBlocks}
 use Rattle.files.specs.Pairs.{failingPair}
-use Rattle.files.specs.Check.{pairAnswer, thenPairs, checkPlan}
+use Rattle.files.specs.Check.{pairAnswer, thenCheck, checkPlan}
 use Rattle.plan.specs.declared.answer.Answer.{Answer}
 use Rattle.plan.specs.declared.answer.Refusal.the-variants.{EngineAbove, AllowanceAbove, BookUnder}
 use Rattle.plan.specs.declared.answer.RunAnswer.the-variants.{Refused, Stopped}
@@ -88,6 +88,6 @@ module _ (plan : List ℕ) (engine allowance room : ℕ) where
 
       module _ (r : 7168 ≤ room) where
         pub by-plan : (a : Answer) → checkBlocks plan ≡ a
-            → answerOf plan engine allowance room ≡ ifFine (thenPairs a (pairAnswer plan (failingPair (readPlan plan)))) (Stopped (totals (stopOf (readPlan plan) engine allowance)))
+            → answerOf plan engine allowance room ≡ ifFine (thenCheck a (pairAnswer plan (failingPair (readPlan plan)))) (Stopped (totals (stopOf (readPlan plan) engine allowance)))
         unfolding answerOf checkPlan
         by-plan a h = rw (le-ltb 1 engine e, le-ltb 10000000 allowance n, le-ltb room 7168 r, h)

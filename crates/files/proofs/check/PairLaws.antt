@@ -21,7 +21,7 @@ use Rattle.files.specs.Pairs.{failsAt, failingCharger, failsSomewhere, f
 use Rattle.files.specs.declared.pairs.FailingPair.the-variants.{Nothing, Pair}
 use Rattle.plan.proofs.SearchLaws.{first-holds, first-missed, length-each}
 use Rattle.plan.specs.Plan.{checkBlocks}
-use Rattle.files.specs.Check.{pairAnswer, thenPairs, checkPlan, AllSealed}
+use Rattle.files.specs.Check.{pairAnswer, thenCheck, checkPlan, AllSealed}
 use Rattle.files.specs.declared.pairs.FailingPair.{FailingPair}
 use Rattle.plan.specs.declared.answer.Answer.{Answer}
 use Rattle.files.proofs.read.Accepted.{sealed-block}
@@ -99,7 +99,7 @@ fine-pairs : (plan : List ℕ) (pair : FailingPair) → pairAnswer plan pair ≡
 fine-pairs plan Nothing e = refl
 fine-pairs plan (Pair v c) e = absurd (let z : _≡_ {A = ℕ} 0 1 = cc in omega arith)
 
-fine-answer : (a b : Answer) → thenPairs a b ≡ Fine → (a ≡ Fine) × (b ≡ Fine)
+fine-answer : (a b : Answer) → thenCheck a b ≡ Fine → (a ≡ Fine) × (b ≡ Fine)
 fine-answer Fine b e = (refl, e)
 fine-answer (Refused x) b e = absurd (let z : _≡_ {A = ℕ} 0 1 = cc in omega arith)
 

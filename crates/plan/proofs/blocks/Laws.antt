@@ -3,17 +3,17 @@ use mathlib.Core.Path.{_≡_, refl, sym, _∙_}
 use mathlib.Core.Bool.{true, _&&_}
 use mathlib.Core.List.{List, _++_, append-assoc}
 use Prim.Native.Nat.{ℕ, zero, suc, _+_, _*_, _/_, _%_, _^_, _<_, _≤_}
-use native.Mathlib.Nat.{add-zero, zero-add, add-suc}
+use native.Mathlib.Nat.{add-zero, zero-add}
 use native.Mathlib.Numerals.{add-one}
 use native.Mathlib.Omega.{arith}
 use borrow.Author.Tests.{eq-eqb, eqb-true, ltb-true, leb-true, lt-ltb, le-leb}
 use lib.Dec.{leb, ltb, eqb}
 use lib.ListN.{length, getD, take, drop, length-append, take-append-drop, length-drop}
-use lib.Seq.{sets, length-take-le, take-all, sets-eq, take-at, drop-at, getD-take, getD-drop}
+use lib.Seq.{sets, length-take-le, take-all, sets-eq, take-at, drop-at}
 use Rattle.plan.specs.Bytes.{leAt, bytes, pieces}
 use Rattle.plan.specs.Blocks.{words, checkOf, sealed, passes, block, wholeBlocks}
 use Rattle.charger.proofs.Lists.{and-true}
-use Rattle.plan.proofs.bytes.Laws.{sets-append, length-bytes, leAt-left, leAt-right, read-back, bytes-leAt}
+use Rattle.plan.proofs.bytes.Laws.{sets-append, length-bytes, leAt-left, leAt-right, leAt-drop, leAt-take, read-back, bytes-leAt}
 use Rattle.plan.proofs.bytes.Apart.{pieces-apart}
 
 -- what whole blocks are
@@ -97,10 +97,8 @@ length-sealed place body e = rw (length-append, length-bytes, e)
 -- ---- a number in a block is one in the file
 
 pub block-read : (n : ℕ) (file : List ℕ) (k at : ℕ) → at + n ≤ 512 → leAt n (block file k) at ≡ leAt n file (512 * k + at)
-unfolding leAt block
-block-read zero file k at h = refl
-block-read (suc n) file k at h =
-    rw (getD-take 512 (drop (512 * k) file) at 0 (omega arith), getD-drop (512 * k) file at 0, block-read n file k (suc at) (omega arith), add-suc)
+unfolding block
+block-read n file k at h = leAt-take n 512 (drop (512 * k) file) at h ∙ leAt-drop n (512 * k) file at
 
 -- a file that is m blocks is these blocks, one after the other
 pub blocks-of : (file : List ℕ) (m : ℕ) → length file ≡ 512 * m → file ≡ pieces (block file) 0 m

@@ -7,7 +7,7 @@ use native.Mathlib.Numerals.{add-one, add-two}
 use native.Mathlib.Omega.{arith}
 use lib.Dec.{lit<}
 use lib.ListN.{length, getD, set, take, drop, length-append, List·getD-append}
-use lib.Seq.{sets, drop-cons, drop-at, drop-drop, getD-drop, getD-append-add}
+use lib.Seq.{sets, drop-cons, drop-at, drop-drop, getD-take, getD-drop, getD-append-add}
 use Rattle.plan.specs.Bytes.{leAt, bytes, fields, pieces}
 
 -- ---- a number that is read
@@ -47,6 +47,12 @@ pub leAt-drop : (n a : ℕ) (s : List ℕ) (at : ℕ) → leAt n (drop a s) at �
 unfolding leAt
 leAt-drop zero a s at = refl
 leAt-drop (suc n) a s at = rw (getD-drop a s at 0, leAt-drop n a s (suc at), add-suc)
+
+-- a number of the first m bytes
+pub leAt-take : (n m : ℕ) (s : List ℕ) (at : ℕ) → at + n ≤ m → leAt n (take m s) at ≡ leAt n s at
+unfolding leAt
+leAt-take zero m s at h = refl
+leAt-take (suc n) m s at h = rw (getD-take m s at 0 (omega arith), leAt-take n m s (suc at) (omega arith))
 
 -- a number of zero bytes is 0
 pub leAt-zero : (n : ℕ) (s : List ℕ) (at : ℕ) → ((k : ℕ) → at ≤ k → k < at + n → getD s k 0 ≡ 0) → leAt n s at ≡ 0

@@ -9,13 +9,9 @@ use Rattle.program.proofs.Text.{few, spelled, length-decimal, store-las
 use borrow.Author.Needs.{needs}
 use Rattle.program.proofs.put_decimal.Statement.{statement}
 use Rattle.program.proofs.put_decimal.Tie as tie
-use Rattle.program.proofs.put_decimal.Reads as reads
-use Rattle.program.proofs.put_decimal.Lts as lts
-use Rattle.io.proofs.decimal.Reads as decimal-reads
-use Rattle.program.proofs.put.Reads as put-reads
 
 -- the digits fit
-fit : (c : lts.After-digits2 (decimal-reads.Asked, decimal-reads.Learnt, put-reads.Asked, put-reads.Learnt) reads.Pre reads.Post) → c .before .before .decimal .result ≤ 20
+fit : (c : tie.After-digits2) → c .before .before .decimal .result ≤ 20
 fit c = few (c .before .before .decimal .result) _ (c .before .before .before .before .before .fits .n .fits) (c .before .before .decimal .ensures .1 .0)
 
 decimal-requires : tie.Need-decimal-requires
@@ -24,26 +20,26 @@ decimal-requires c κs = search needs
 array-share-prefix-digits : tie.Need-array-share-prefix-digits
 array-share-prefix-digits c = search needs
 
-slice-aggregate-put : tie.Need-slice-aggregate-put
-slice-aggregate-put c = search needs
+slice-aggregate-put-bytes : tie.Need-slice-aggregate-put-bytes
+slice-aggregate-put-bytes c = search needs
 
-put-requires : tie.Need-put-requires
-put-requires c κs = omega (arith, fit c)
+put-bytes-requires : tie.Need-put-bytes-requires
+put-bytes-requires c κs = omega (arith, fit c)
 
 add-out : tie.Need-add-out
-add-out c = omega (arith, fit (c .before .before .before), simp length-sets at (ap length (c .before .before .put .ensures)))
+add-out c = omega (arith, fit (c .before .before .before), simp length-sets at (ap length (c .before .before .put-bytes .ensures)))
 
 slice-write-out : tie.Need-slice-write-out
-slice-write-out c = omega (arith, fit (c .before .before .before), simp length-sets at (ap length (c .before .before .put .ensures)))
+slice-write-out c = omega (arith, fit (c .before .before .before), simp length-sets at (ap length (c .before .before .put-bytes .ensures)))
 
 add-result : tie.Need-add-result
-add-result c = omega (arith, fit (c .before .before .before), simp length-sets at (ap length (c .before .before .put .ensures)))
+add-result c = omega (arith, fit (c .before .before .before), simp length-sets at (ap length (c .before .before .put-bytes .ensures)))
 
 add-result-2 : tie.Need-add-result-2
-add-result-2 c = omega (arith, fit (c .before .before .before), simp length-sets at (ap length (c .before .before .put .ensures)))
+add-result-2 c = omega (arith, fit (c .before .before .before), simp length-sets at (ap length (c .before .before .put-bytes .ensures)))
 
 same-length : tie.Need-same-length
-same-length c = simp length-set (simp length-sets at (ap length (c .before .before .put .ensures)))
+same-length c = simp length-set (simp length-sets at (ap length (c .before .before .put-bytes .ensures)))
 
 returns : tie.Need-returns
 returns c =
@@ -54,7 +50,7 @@ returns c =
       omega (arith, fit (c .before .before .before)),
       (
         rw (length-append, long) (omega arith),
-        store-last (start .args .out .now) _ (decimal (start .args .n)) _ _ _ (rw (spelled (c .before .before .before .before .before .decimal .result) _ _ n-fits (spells .1 .0) (spells .1 .1)) at (c .before .before .put .ensures)) long,
+        store-last (start .args .out .now) _ (decimal (start .args .n)) _ _ _ (rw (spelled (c .before .before .before .before .before .decimal .result) _ _ n-fits (spells .1 .0) (spells .1 .1)) at (c .before .before .put-bytes .ensures)) long,
       ),
     )
 
@@ -64,8 +60,8 @@ put-decimal-spec =
     (tie.spec
     decimal-requires
     array-share-prefix-digits
-    slice-aggregate-put
-    put-requires
+    slice-aggregate-put-bytes
+    put-bytes-requires
     add-out
     slice-write-out
     add-result

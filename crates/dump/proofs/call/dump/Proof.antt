@@ -8,7 +8,7 @@ use Rattle.plan.specs.Plan.{checkBlocks}
 use Rattle.plan.specs.declared.answer.Answer.{Answer}
 use Rattle.plan.specs.declared.answer.Refusal.the-variants.{EngineAbove, AllowanceAbove, BookUnder, DumpUnder}
 use Rattle.plan.specs.declared.answer.RunAnswer.the-variants.{Stopped}
-use Rattle.files.specs.Check.{thenPairs, pairAnswer}
+use Rattle.files.specs.Check.{thenCheck, pairAnswer}
 use Rattle.files.specs.Pairs.{failingPair}
 use Rattle.files.specs.Read.{readPlan}
 use Rattle.files.specs.Call.{totals, ifFine}
@@ -22,7 +22,7 @@ use Rattle.dump.proofs.call.dump.Tie as tie
 planned : (c : tie.Else4) (a : Answer) → let x = c .before .before .before .before .before .before .before .args in
     checkBlocks (now (x .plan)) ≡ a
     → dumpAnswer (now (x .plan)) (x .engine) (x .allowance) (length (now (x .book))) (length (now (x .dump)))
-    ≡ ifFine (thenPairs a (pairAnswer (now (x .plan)) (failingPair (readPlan (now (x .plan)))))) (Stopped (totals (byEvents (readPlan (now (x .plan))) (x .allowance))))
+    ≡ ifFine (thenCheck a (pairAnswer (now (x .plan)) (failingPair (readPlan (now (x .plan)))))) (Stopped (totals (byEvents (readPlan (now (x .plan))) (x .allowance))))
 planned c = by-plan _ _ _ _ _ (c .before .before .before .if1 .left) (c .before .before .if2 .left) (c .before .if3 .left) (c .if4 .left)
 
 returns : tie.Need-returns

@@ -9,7 +9,7 @@ use Rattle.plan.specs.declared.answer.Answer.{Answer}
 use mathlib.Core.Bool.{cond}
 use Rattle.plan.specs.declared.answer.Refusal.the-variants.{AllowanceAbove, BookUnder, OtherDump}
 use Rattle.plan.specs.declared.answer.RunAnswer.the-variants.{Refused, Stopped}
-use Rattle.files.specs.Check.{thenPairs, pairAnswer}
+use Rattle.files.specs.Check.{thenCheck, pairAnswer}
 use Rattle.files.specs.Pairs.{failingPair}
 use Rattle.files.specs.Read.{readPlan}
 use Rattle.files.specs.Call.{totals, ifFine}
@@ -24,7 +24,7 @@ use Rattle.dump.proofs.resume.resume.Tie as tie
 planned : (c : tie.Else2) (a : Answer) → let x = c .before .before .before .before .before .args in
     checkBlocks (now (x .plan)) ≡ a
     → continuedAnswer (now (x .plan)) (now (x .dump)) (x .further) (length (now (x .book)))
-    ≡ ifFine (thenPairs a (pairAnswer (now (x .plan)) (failingPair (readPlan (now (x .plan))))))
+    ≡ ifFine (thenCheck a (pairAnswer (now (x .plan)) (failingPair (readPlan (now (x .plan))))))
     (cond (isDump (now (x .plan)) (now (x .dump))) (Stopped (totals (byEvents (readPlan (now (x .plan))) (continuedTo (now (x .dump)) (x .further))))) (Refused OtherDump))
 planned c = by-plan _ _ _ _ (c .before .if1 .left) (c .if2 .left)
 

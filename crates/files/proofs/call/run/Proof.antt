@@ -4,7 +4,7 @@ use borrow.Author.Needs.{needs}
 use denote.Ref.{now}
 use lib.ListN.{length}
 use Rattle.plan.specs.Plan.{checkBlocks}
-use Rattle.files.specs.Check.{thenPairs, pairAnswer}
+use Rattle.files.specs.Check.{thenCheck, pairAnswer}
 use Rattle.files.specs.Pairs.{failingPair}
 use Rattle.files.specs.Read.{readPlan}
 use Rattle.files.specs.Call.{stopOf, totals, ifFine, answerOf}
@@ -20,7 +20,7 @@ use Rattle.files.proofs.call.run.Tie as tie
 planned : (c : tie.Else3) (a : Answer) → let x = c .before .before .before .before .before .args in
     checkBlocks (now (x .plan)) ≡ a
     → answerOf (now (x .plan)) (x .engine) (x .allowance) (length (now (x .book)))
-    ≡ ifFine (thenPairs a (pairAnswer (now (x .plan)) (failingPair (readPlan (now (x .plan)))))) (Stopped (totals (stopOf (readPlan (now (x .plan))) (x .engine) (x .allowance))))
+    ≡ ifFine (thenCheck a (pairAnswer (now (x .plan)) (failingPair (readPlan (now (x .plan)))))) (Stopped (totals (stopOf (readPlan (now (x .plan))) (x .engine) (x .allowance))))
 planned c = by-plan _ _ _ _ (c .before .before .if1 .left) (c .before .if2 .left) (c .if3 .left)
 
 returns : tie.Need-returns
