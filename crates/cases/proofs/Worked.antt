@@ -1,7 +1,11 @@
 -- Every case of the list gives what the paper says, by computation from the plan's bytes. Assumes nothing.
 use Prim.Native.Nat.{ℕ}
-use mathlib.Core.Path.{_≡_, refl, ap, _∙_}
-use mathlib.Core.List.{List, _∷_}
+use mathlib.Core.Path.{_≡_, refl, ap, _∙_, subst}
+use mathlib.Core.Bool.{Bool, true, false, cond, not}
+use mathlib.Core.List.{List, [], _∷_, append-nil}
+use borrow.Author.Tests.{eq-eqb}
+use lib.Dec.{leb}
+use lib.ListN.{length}
 use lib.Ieee.{ofBits, toBits, eq, lt, le, ne, add, sub, mul, div, ofInt, toUnsigned}
 use Rattle.curve.specs.F64.{ratio, ceiling}
 use Rattle.curve.specs.Curve.{integrateOver, curveOf}
@@ -21,19 +25,22 @@ use Rattle.plan.specs.Bytes.{leAt, bytes, fields, pieces}
 use Rattle.plan.specs.Blocks.{words, checkOf, sealed, passes, block, wholeBlocks}
 use Rattle.plan.specs.Search.{firstIndex, every, each}
 use Rattle.plan.specs.Fields.{bytesIn, connectorsOk, capOk, pointCount, pointOk}
-use Rattle.plan.specs.Places.{kindAt}
+use Rattle.plan.specs.Places.{kindAt, vehicleCount}
 use Rattle.plan.specs.Plan.{idAt, withId, newSoc, firstRefusal, checkBlocks}
 use Rattle.files.specs.Read.{readPlan, pointsOf, curveOfProfile, batteryOf, chargersOf, connectorRows, profileIndex, vehicleOf, vehicleIn, vehiclesOf, limitOf}
 use Rattle.files.specs.Pairs.{failingCharger, failingPair}
 use Rattle.files.specs.Check.{checkPlan}
+use Rattle.files.proofs.check.PairLaws.{plan-fine}
 use Rattle.files.specs.Call.{stopOf, bookOf}
 use Rattle.files.specs.BookSession.{vehicleNumber, chargerId, bookSessions, noSession}
 use Rattle.files.specs.SessionBlocks.{sessionBytes, slot, sessionBlock, sessionBlocks, sessionOf, sessionsFrom}
 use Rattle.files.specs.Book.{bookBytes, sessionsIn}
 use Rattle.files.specs.Book as B
 use Rattle.dump.specs.EventBlocks.{eventBytes, eventSlot, eventBlock, eventBlocks}
-use Rattle.dump.specs.Dump.{table, headerBlock, dumpBytes, dumpOf, startsWith, isDump}
+use Rattle.dump.specs.Dump.{table, headerBlock, dumpBytes, dumpOf, handledIn, isDump}
+use Rattle.dump.proofs.dump.Runs.{is-own}
 use Rattle.late_booking.specs.LongerPlan.{raised, longer}
+use Rattle.late_booking.specs.LateCar.{arrivalIn, isLater}
 use Rattle.late_booking.specs.Call.{bookingAnswer, lateAnswer}
 use Rattle.book_reader.specs.Reader.{damaged, sessionOk, restOk, againstRules, testAnswer, readBook, sessionNumbers}
 use Rattle.plan.specs.declared.answer.Answer.{Answer}
@@ -71,11 +78,6 @@ back : List ℕ → Result
 unfolding stop dumped bookOf bookBytes B.headerBlock readBook testAnswer damaged againstRules sessionOk restOk sessionsIn sessionsFrom sessionOf sessionNumbers
     wholeBlocks passes block every bytesIn
 back b = backFrom (readBook b)
-
--- a car booked late
-booked : ℕ → Bay → List ℕ → Answer
-unfolding check dumped isDump startsWith longer raised lateAnswer bookingAnswer
-booked n b car = lateAnswer (plan b) (dumpOf (plan b) n) car 16384
 
 -- ---- each plan is checked once
 
@@ -119,15 +121,29 @@ lead-refused : check (nacsCapped (record { 0 = ratio 1 2 })) ≡ Refused (Broken
 unfolding check
 lead-refused = refl
 
--- ---- and each booking is answered once
+-- ---- a late booking: with M2's second car M1's longer plan is M2's
 
-late-fine : booked 1 bay (lateCar 200) ≡ Fine
-unfolding booked
-late-fine = refl
+-- a plan's dump after n events, and a car for which all tests but the last are passed
+module _ (plan car : List ℕ) (n : ℕ) (fine : checkPlan plan ≡ Fine) (one : length car ≡ 512) (room : leb 64 (vehicleCount plan) ≡ false) where
+  own-dump : isDump plan (dumpOf plan n) ≡ true
+  own-dump = subst (λ (b : List ℕ). isDump plan b ≡ true) (append-nil (dumpOf plan n)) (is-own plan (plan-fine plan fine .0) n [])
 
-late-refused : booked 1 bay (lateCar 100) ≡ Refused NotLater
-unfolding booked
-late-refused = refl
+  by-arrival : {t : Bool} → isLater (readPlan plan) (handledIn (dumpOf plan n)) (arrivalIn car) ≡ t
+      → lateAnswer plan (dumpOf plan n) car 16384 ≡ cond (not t) (Refused NotLater) (checkPlan (longer plan car))
+  unfolding lateAnswer bookingAnswer
+  by-arrival later = rw (eq-eqb (length car) 512 one, fine, own-dump, room, later)
+
+m2-longer : longer (plan bay) (lateCar 200) ≡ plan (secondCar 1800 10)
+unfolding longer raised sealed checkOf words leAt bytes plan
+m2-longer = refl
+
+late-fine : lateAnswer (plan bay) (dumpOf (plan bay) 1) (lateCar 200) 16384 ≡ Fine
+unfolding check dumped
+late-fine = by-arrival (plan bay) (lateCar 200) 1 bay-fine refl refl {t = true} refl ∙ ap checkPlan m2-longer ∙ m2-fine
+
+late-refused : lateAnswer (plan bay) (dumpOf (plan bay) 1) (lateCar 100) 16384 ≡ Refused NotLater
+unfolding check dumped
+late-refused = by-arrival (plan bay) (lateCar 100) 1 bay-fine refl refl {t = false} refl
 
 -- ---- the theorem
 
@@ -136,17 +152,19 @@ by : (engine n : ℕ) (b : Bay) {a : Answer} {r : Result} → check b ≡ a → 
 unfolding result check stop
 by engine n b answer given = ap (λ a. ifFine a (stop engine n b)) answer ∙ given
 
--- a booking, by its answer
-by-booking : (n : ℕ) (b : Bay) (car : List ℕ) {a : Answer} {r : Result} → booked n b car ≡ a → ifBooked a (dumpOf (longer (plan b) car) n) ≡ r → Holds (bookLate n (plan b) car gives r)
-unfolding result booked
-by-booking n b car answer given = ap (λ a. ifBooked a (dumpOf (longer (plan b) car) n)) answer ∙ given
+-- a booking, by its answer and the longer plan
+by-booking : (n : ℕ) (b : Bay) (car long : List ℕ) {a : Answer} {r : Result} → lateAnswer (plan b) (dumpOf (plan b) n) car 16384 ≡ a → longer (plan b) car ≡ long
+    → ifBooked a (dumpOf long n) ≡ r → Holds (bookLate n (plan b) car gives r)
+unfolding result
+by-booking n b car long {a} answer same given =
+    ap (λ a. ifBooked a (dumpOf (longer (plan b) car) n)) answer ∙ ap (λ (l : List ℕ). ifBooked a (dumpOf l n)) same ∙ given
 
 infixr 67 _and_
 _and_ : {w : Worked} {ws : List Worked} → Holds w → All Holds ws → All Holds (w ∷ ws)
 h and hs = also h hs
 
 pub worked-through : All Holds worked
-unfolding worked result stop dumped back booked
+unfolding worked result stop dumped back
 worked-through =
     by events 10 bay bay-fine refl
     and by events 10 (secondCar 1800 10) m2-fine refl
@@ -169,6 +187,6 @@ worked-through =
     and refl
     and refl
     and refl
-    and by-booking 1 bay (lateCar 200) late-fine refl
-    and by-booking 1 bay (lateCar 100) late-refused refl
+    and by-booking 1 bay (lateCar 200) (plan (secondCar 1800 10)) late-fine m2-longer refl
+    and by-booking 1 bay (lateCar 100) (longer (plan bay) (lateCar 100)) late-refused refl refl
     and none
