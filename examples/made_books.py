@@ -10,6 +10,7 @@ OPEN = CHARGED | dict(vehicle=8, outcome=0, unplug=0, charge_duration=0.0, peak_
 RENEGED = dict(vehicle=9, profile=1, outcome=2, arrival=200, wait=300, soc_start=0.5)
 BALKED = dict(vehicle=10, profile=1, outcome=3, arrival=250, wait=0, soc_start=0.5)
 EACH = [CHARGED, OPEN, RENEGED, BALKED]
+OF_FLEETS = [session | {"fleet": fleet} for session, fleet in zip(EACH, [1, 64, 0, 1])]
 
 
 def session_bytes(session):

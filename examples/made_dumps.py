@@ -16,8 +16,10 @@ TEXT = (
     + b"".join(b"vehicle %d profile 1 connectors soc 0.25 0.75 idle 120 arrival 100 wait 1800 queue 2\n" % id for id in range(7, 12))
 )
 LONGER_TEXT = TEXT + b"vehicle 12 profile 1 connectors soc 0.25 0.75 idle 120 arrival 550 wait 1600 queue 2\n"
+FLEET_TEXT = TEXT.replace(b"vehicle 9 ", b"vehicle 9 fleet 3 ").replace(b"vehicle 10 ", b"vehicle 10 fleet 3 ") + b"fleet 3 places 1\n"
 PLAN = text.read_plan("day.txt", TEXT)
 LONGER_PLAN = text.read_plan("longer.txt", LONGER_TEXT)
+FLEET_PLAN = text.read_plan("day.txt", FLEET_TEXT)
 
 # Vehicle 7 is plugged in, 9 and 8 wait, 10 has driven on, and 11 is yet to arrive.
 WAITING = dict(
@@ -27,6 +29,8 @@ WAITING = dict(
     events=[(500, RENEGE, 7), (600, ARRIVAL, 9), (2080, UNPLUG, 3), (2400, RENEGE, 9)],
     sessions=[CHARGED, BALKED],
 )
+# Vehicle 9 has the one place of its fleet, so 10 has driven on.
+OF_FLEETS = WAITING | dict(sessions=[CHARGED, BALKED | {"fleet": 3}])
 # Vehicle 12 was booked late: its arrival is pending between the others' events, and so is its renege.
 BOOKED_LATE = WAITING | dict(
     events=[(500, RENEGE, 7), (550, ARRIVAL, 10), (600, ARRIVAL, 9), (2080, UNPLUG, 3), (2150, RENEGE, 10), (2400, RENEGE, 9)],

@@ -4,7 +4,8 @@ import struct
 import unittest
 from pathlib import Path
 
-from made_books import BALKED, CHARGED, EACH, OPEN, RENEGED, altered, book_bytes
+from made_books import BALKED, CHARGED, EACH, OF_FLEETS, OPEN, RENEGED, altered, book_bytes
+from made_dumps import FLEET_PLAN, PLAN
 from sitefiles import blocks, book, plan, refusal, text
 from sitefiles.blocks import BLOCK, Damaged
 
@@ -48,6 +49,11 @@ class Reading(unittest.TestCase):
         self.assertEqual((reneged.outcome, reneged.wait, reneged.charger, reneged.plugin), ("reneged", 300, None, None))
         self.assertEqual((balked.outcome, balked.idle, balked.soc_end, balked.soc_start), ("balked", None, None, 0.5))
 
+    def test_sessions_of_every_outcome_have_their_fleet(self):
+        data = book_bytes(OF_FLEETS)
+        self.assertEqual([data[512 + 96 * k + 14 : 512 + 96 * k + 16] for k in range(4)], [b"\1\0", b"\x40\0", b"\0\0", b"\1\0"])
+        self.assertEqual([session.fleet for session in book.read(data).sessions], [1, 64, None, 1])
+
     def test_id_0_is_an_id(self):
         self.assertEqual(book.read(book_bytes([CHARGED | {"charger": 0}])).sessions[0].charger, 0)
 
@@ -58,9 +64,9 @@ class Reading(unittest.TestCase):
 
 
 class Damage(unittest.TestCase):
-    def expect(self, data, saying):
+    def expect(self, data, saying, of_plan=None):
         with self.assertRaises(Damaged) as caught:
-            book.read(data)
+            book.read(data, of_plan)
         self.assertIn(saying, str(caught.exception))
 
     def setUp(self):
@@ -102,7 +108,6 @@ class Damage(unittest.TestCase):
         self.expect(altered(self.whole, 507, b"\1"), "byte 507 (the header)")
         self.expect(altered(self.whole, 512 + 4 * 96, b"\5"), "byte 896 (block 2, behind its last session): it is 5")
         self.expect(altered(self.whole, 1019, b"\1"), "byte 1019 (block 2, behind its last session)")
-        self.expect(altered(self.whole, 512 + 14, b"\1"), "byte 526 (session 1 (block 2, bytes 512 to 607))")
 
     def test_fields_that_an_outcome_has_not_are_zero(self):
         for session, name in [(OPEN, "unplug"), (OPEN, "energy_kwh"), (RENEGED, "charger"), (RENEGED, "soc_end"), (BALKED, "plugin")]:
@@ -112,6 +117,9 @@ class Damage(unittest.TestCase):
         self.expect(book_bytes([CHARGED | {"outcome": 4}]), "session 1 (block 2, bytes 512 to 607): outcome 4")
         self.expect(book_bytes([CHARGED | {"connector": 6}]), "connector 6; it can be 1 to 5")
         self.expect(book_bytes([OPEN | {"connector": 0}]), "connector 0")
+        for session in EACH:
+            for fleet in [65, 256, 65535]:
+                self.expect(book_bytes([session | {"fleet": fleet}]), f"session 1 (block 2, bytes 512 to 607): fleet {fleet}; it can be 0 (none) to 64")
 
     def test_floats_are_amounts(self):
         for value in [math.nan, math.inf, -1.0]:
@@ -119,6 +127,16 @@ class Damage(unittest.TestCase):
 
     def test_a_vehicle_has_one_session(self):
         self.expect(book_bytes([CHARGED, RENEGED, CHARGED]), "session 3: vehicle 7 has a session already, session 1")
+
+    def test_a_vehicle_has_the_fleet_of_its_plan(self):
+        of_fleet = BALKED | {"fleet": 3}
+        for session, of_plan, said in [
+            (of_fleet, PLAN, "vehicle 10 has fleet 3 in the book and no fleet in day.txt"),
+            (BALKED, FLEET_PLAN, "vehicle 10 has no fleet in the book and fleet 3 in day.txt"),
+            (BALKED | {"fleet": 4}, FLEET_PLAN, "vehicle 10 has fleet 4 in the book and fleet 3 in day.txt"),
+        ]:
+            self.expect(book_bytes([session]), f"{said}: the book is of another plan", of_plan)
+        self.assertEqual(book.read(book_bytes([of_fleet, CHARGED]), FLEET_PLAN).sessions[0].fleet, 3)
 
 
 class Refusals(unittest.TestCase):

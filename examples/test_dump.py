@@ -3,7 +3,7 @@ import struct
 import unittest
 
 from made_books import CHARGED, EACH, altered, book_bytes
-from made_dumps import ARRIVAL, BOOKED_LATE, ENDED, LONGER_PLAN, PLAN, RENEGE, UNPLUG, WAITING, dump_bytes
+from made_dumps import ARRIVAL, BOOKED_LATE, ENDED, FLEET_PLAN, LONGER_PLAN, OF_FLEETS, PLAN, RENEGE, UNPLUG, WAITING, dump_bytes
 from sitefiles import blocks, book, dump, plan, tables
 from sitefiles.blocks import Damaged
 from sitefiles.dump import Event, Place
@@ -116,8 +116,16 @@ class Words(unittest.TestCase):
         self.assertEqual(lines[13:-1], before[11:-1])
         self.assertIn("4 vehicles without a session", lines[-1])
 
+    def test_fleets(self):
+        lines = words(OF_FLEETS, FLEET_PLAN)
+        self.assertEqual(lines[1:4], ["queued, in this order:", "  vehicle 9 of fleet 3", "  vehicle 8"])
+        self.assertEqual((lines[12].split()[:3], lines[14].split()[:3]), (["vehicle", "fleet", "charger"], ["10", "3", "balked"]))
+        self.assertEqual(words(OF_FLEETS)[1:4], words(WAITING)[1:4])
+        self.assertEqual(words(OF_FLEETS)[14].split()[:3], ["10", "3", "balked"])
+
     def test_a_plan_as_bytes_gives_the_same_words(self):
-        self.assertEqual(words(WAITING, plan.from_bytes("day.plan", PLAN.data())), words(WAITING, PLAN))
+        for state, of_plan in [(WAITING, PLAN), (OF_FLEETS, FLEET_PLAN)]:
+            self.assertEqual(words(state, plan.from_bytes("day.plan", of_plan.data())), words(state, of_plan))
 
 
 class Damage(unittest.TestCase):
@@ -197,6 +205,7 @@ class Damage(unittest.TestCase):
 
     def test_sessions(self):
         self.expect_altered(1024 + 13, b"\4", "session 1 (block 3, bytes 1024 to 1119): outcome 4")
+        self.expect_altered(1120 + 14, b"\x41", "session 2 (block 3, bytes 1120 to 1215): fleet 65")
         self.expect(dump_bytes(**WAITING | {"sessions": [CHARGED, CHARGED]}), "session 2: vehicle 7 has a session already")
 
     def test_another_plan(self):
@@ -210,6 +219,10 @@ class Damage(unittest.TestCase):
             (dict(sessions=[CHARGED | {"vehicle": 12}]), "vehicle 12 is not in day.txt: the dump is of another plan"),
         ]:
             self.expect(dump_bytes(**WAITING | other), saying, PLAN)
+
+    def test_fleets_of_another_plan(self):
+        self.expect(dump_bytes(**OF_FLEETS), "vehicle 10 has fleet 3 in the dump and no fleet in day.txt: the dump is of another plan", PLAN)
+        self.expect(dump_bytes(**WAITING), "vehicle 10 has no fleet in the dump and fleet 3 in day.txt", FLEET_PLAN)
 
     def test_a_late_car_with_the_plan_before_it(self):
         self.expect(dump_bytes(**BOOKED_LATE), "block 10 of day.txt is no vehicle: the dump is of another plan", PLAN)

@@ -63,8 +63,7 @@ class Page(unittest.TestCase):
     def test_the_numbers_are_those_of_the_book(self):
         count, engine, ended, used = struct.unpack_from("<HBBQ", self.book, 4)
         self.assertIn(f"the book above has the header {count}, {engine}, {ended}, {used} (", PAGE)
-        numbers = list(struct.unpack_from("<IIIBBxx10Q", self.book, blocks.BLOCK))
-        numbers.insert(5, 0)
+        numbers = struct.unpack_from("<IIIBBH10Q", self.book, blocks.BLOCK)
         self.assertEqual([(int(place), int(number, 16)) for place, number in NUMBER.findall(PAGE)], list(enumerate(numbers)))
 
     def test_the_totals_are_those_of_the_book(self):

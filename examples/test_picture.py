@@ -42,6 +42,10 @@ class Drawn(unittest.TestCase):
         self.assertIn("vehicle 10: drove on at 00:04:10", titles(root))
         self.assertTrue(any("has not ended" in word for word in words(root)))
 
+    def test_a_fleet_is_in_the_title(self):
+        shown = titles(drawn([session | {"fleet": 3} for session in EACH]))
+        self.assertEqual([title.split(":")[0] for title in shown], [f"vehicle {id} of fleet 3" for id in (7, 8, 9, 10)])
+
     def test_a_stay_of_no_length_can_be_seen(self):
         root = drawn([CHARGED | {"unplug": 160, "charge_duration": 0.0, "idle": 0.0}])
         self.assertEqual(bars(root, picture.CHARGING), [1.5])

@@ -10,7 +10,7 @@ from pathlib import Path
 from unittest import mock
 
 import sitebook
-from made_books import CHARGED, OPEN, book_bytes
+from made_books import CHARGED, EACH, OF_FLEETS, OPEN, book_bytes
 from made_dumps import BOOKED_LATE, LONGER_PLAN, LONGER_TEXT, PLAN, TEXT, WAITING, dump_bytes
 from sitefiles import blocks, book, dump
 from sitefiles.tables import exact
@@ -156,6 +156,13 @@ class Books(Commands):
         self.assertEqual(by_text, by_bytes)
         self.assertNotIn(b"warning", by_text)
 
+    def test_fleets_are_shown_where_there_are_some(self):
+        _, title, *rows = self.succeeds("show", stdin=book_bytes(OF_FLEETS)).decode().splitlines()
+        self.assertEqual(title.split()[:4], ["vehicle", "fleet", "charger", "connector"])
+        wanted = [["7", "1", "3"], ["8", "64", "3"], ["9", "reneged", "00:03:20"], ["10", "1", "balked"]]
+        self.assertEqual([row.split()[:3] for row in rows], wanted)
+        self.assertNotIn(b"fleet", self.succeeds("show", stdin=book_bytes(EACH)))
+
     def test_a_limit_that_events_ignore_is_warned_of(self):
         data = book_bytes([CHARGED | {"vehicle": 7001, "charger": 101}], engine=0)
         for name in ("day.txt", "day.plan"):
@@ -227,6 +234,10 @@ class Books(Commands):
                     self.assertEqual(float(written), value)
         self.assertEqual(rows[0]["energy_kwh"], "30.000790290734237")
         self.assertEqual((rows[6]["connector"], rows[3]["outcome"], rows[3]["charger"]), ("CHAdeMO", "balked", ""))
+
+    def test_csv_has_the_fleets(self):
+        rows = list(csv.DictReader(io.StringIO(self.succeeds("csv", stdin=book_bytes(OF_FLEETS)).decode())))
+        self.assertEqual([row["fleet"] for row in rows], ["1", "64", "", "1"])
 
     def test_picture(self):
         path = self.file("day.book", RECORDED_BOOK)

@@ -78,6 +78,25 @@ class Reading(unittest.TestCase):
         self.assertEqual(struct.unpack("<5d", data[512 + 40 : 512 + 80]), (0, 125.5, 1, 0, 63))
         self.assertEqual(data_of(CHARGER)[512 + 40 : 512 + 508], bytes(468))
 
+    def test_queue_places_stand_by_fleet(self):
+        data = data_of("fleet 3 places 5", "fleet 64 places 64", "fleet 2 places 0", "fleet 1 places 4")
+        self.assertEqual(data[24:88], bytes([4, 0, 5]) + bytes(60) + bytes([64]))
+        self.assertEqual(data_of("limit 90", "fleet 1 places 4")[12:25], b"\1\0\0\0" + struct.pack("<d", 90) + b"\4")
+        self.assertEqual(data_of(*SITE)[24:508], bytes(484))
+
+    def test_a_vehicle_has_its_fleet(self):
+        for written in [f"{VEHICLE} fleet 64", VEHICLE.replace("profile 1", "fleet 64 profile 1")]:
+            data = data_of(PROFILE, written, "fleet 64 places 1")
+            self.assertEqual(data[1024 + 56 : 1024 + 508], b"\x0a\0\0\0\x40\0" + bytes(446))
+        self.assertEqual(data_of(PROFILE, VEHICLE)[1024 + 60 : 1024 + 508], bytes(448))
+
+    def test_the_example_of_fleets(self):
+        made = text.read_plan("fleets.txt", (HERE / "fleets.txt").read_bytes())
+        for read in [made, plan.from_bytes("fleets.plan", made.data())]:
+            fleets = [(part.id, part.fleet()) for part in read.parts if part.kind == "vehicle"]
+            self.assertEqual(fleets, [(11, 1), (12, 1), (13, 1), (14, 1), (21, None), (22, None), (15, 1)])
+            self.assertEqual(read.data()[24:88], b"\1" + bytes(63))
+
     def test_marks_comments_and_line_ends_do_not_count(self):
         wanted = data_of(*SITE)
         windows = b"\xef\xbb\xbf" + "\r\n".join(["# a site", ""] + [line + "  # so" for line in SITE]).encode()
@@ -91,6 +110,7 @@ class Reading(unittest.TestCase):
         data_of("limit 0.125", "profile 0 battery 1 points 0:0.125", "profile 4294967295 battery 1024 points 1:1024")
         data_of("limit 65536", "charger 1 power 1024 current 4096 voltage 4096 connectors", "charger 2 power 0.125 current 1 voltage 1 connectors")
         data_of(PROFILE, "vehicle 1 profile 1 connectors soc 0 1 idle 604800 arrival 1000000 wait 1000000 queue 4294967295")
+        data_of("fleet 1 places 0", "fleet 64 places 64", PROFILE, f"{VEHICLE} fleet 1", f"{VEHICLE.replace('vehicle 1', 'vehicle 2')} fleet 64")
 
 
 class Faults(unittest.TestCase):
@@ -102,7 +122,7 @@ class Faults(unittest.TestCase):
         self.assertIn(saying, messages[0])
 
     def test_unknown_words(self):
-        self.expect("cabinet 2 power 50", "cabinet", "limit, profile, charger, vehicle")
+        self.expect("cabinet 2 power 50", "cabinet", "limit, fleet, profile, charger, vehicle")
         self.expect("Charger 2 power 50", "Charger", "unknown kind")
         self.expect("charger 2 watts 50", "watts", "a charger has power, current, voltage, connectors, leads")
         self.expect("charger 2 battery 50", "battery", "unknown field")
@@ -177,6 +197,33 @@ class Faults(unittest.TestCase):
         self.expect("charger 2 leads CCS2:0", "0", "from 1 to 4096 A")
         self.expect("charger 2 leads CCS2:100V", "100V", "is in A")
 
+    def test_fleets(self):
+        self.expect("fleet", "fleet", "its id is missing")
+        self.expect("fleet 0 places 1", "0", "the id of a fleet is out of its range, from 1 to 64")
+        self.expect("fleet 65 places 1", "65", "from 1 to 64")
+        self.expect("fleet places 1", "places", "the id of a fleet is a number")
+        self.expect("fleet 1:4", "1:4", "the id of a fleet is a number")
+        self.expect("fleet 2", "fleet 2", "missing: places")
+        self.expect("fleet 2 places", "places", "missing")
+        self.expect("fleet 2 places -1", "-1", "places is out of its range")
+        self.expect("fleet 2 places 1.5", "1.5", "whole number")
+        self.expect("fleet 2 places 1 2", "2", "too many for places")
+        self.expect("fleet 2 queue 1", "queue", "a fleet has places")
+        self.expect("vehicle 2 fleet 0", "0", "fleet is out of its range, from 1 to 64")
+        self.expect("vehicle 2 fleet", "fleet", "missing")
+
+    def test_a_fleet_named_twice(self):
+        self.assertEqual(faults_of("fleet 3 places 1", "", "fleet 3 places 1"), ['day.txt:3: "3": this id has a fleet already, on line 1'])
+        self.expect("vehicle 2 fleet 1 fleet 1", "fleet", "twice")
+
+    def test_a_vehicle_names_a_fleet_that_has_its_places(self):
+        stranger = VEHICLE.replace("vehicle 1", "vehicle 2") + " fleet 3"
+        self.expect(stranger, "fleet 3", "no line gives its queue places, as fleet 3 places 4")
+        self.assertEqual(faults_of(*SITE, stranger, "fleet 3 places 0"), [])
+
+    def test_a_fault_in_a_fleet_is_no_fault_of_its_vehicles(self):
+        self.assertEqual(len(faults_of(PROFILE, f"{VEHICLE} fleet 3", "fleet 3 places 65")), 1)
+
     def test_whole_numbers(self):
         self.expect("vehicle 2 arrival 1.5", "1.5", "whole number")
         self.expect("vehicle 2 arrival 1e3", "1e3", "whole number")
@@ -210,6 +257,8 @@ class Faults(unittest.TestCase):
             ("vehicle 2 wait -5", "-5", "from 0 to 1000000 s"),
             ("vehicle 2 queue 4294967296", "4294967296", "from 0 to 4294967295"),
             ("vehicle 2 queue " + "9" * 5000, "9" * 5000, "from 0 to 4294967295"),
+            ("vehicle 2 fleet 65", "65", "from 1 to 64"),
+            ("fleet 2 places 65", "65", "from 0 to 64"),
         ]:
             self.expect(line, word, range)
 

@@ -8,7 +8,7 @@ import unittest
 from pathlib import Path
 
 import sitebook
-from made_books import BALKED, CHARGED, EACH, OPEN, RENEGED, altered, book_bytes
+from made_books import BALKED, CHARGED, EACH, OF_FLEETS, OPEN, RENEGED, altered, book_bytes
 from sitefiles import blocks, book, tables, totals
 from sitefiles.blocks import BLOCK, Damaged
 from sitefiles.sessions import FIELDS, OUTCOMES
@@ -69,6 +69,17 @@ class Table(unittest.TestCase):
             ],
         )
 
+    def test_a_row_for_each_fleet(self):
+        of_fleets, second = Named("fleets.book", FOUR, book.read(book_bytes(OF_FLEETS))), Named("second.book", TWO, book.read(SECOND))
+        self.assertEqual(
+            tables.totals([of_fleets, second])[-3:],
+            [
+                "fleet  sessions  open  charged  reneged  balked     kWh  longest wait s",
+                "    1         2     0        1        0       1  25.000              60",
+                "   64         1     1        0        0       0   0.000              60",
+            ],
+        )
+
     def test_a_book_without_sessions(self):
         none = Named("none.book", NONE, book.read(book_bytes([])))
         lines = tables.totals([none])
@@ -83,7 +94,7 @@ class Table(unittest.TestCase):
     def test_a_book_that_cannot_be_shown(self):
         lines = tables.totals([Named("twice.book", Totals((0, 2, 0, 0), 50.0, 60), fault="session 2: vehicle 7 has a session already")])
         self.assertEqual(lines[0], "1 book (0 by events, 0 by steps), 2 sessions: 0 open, 2 charged, 0 reneged, 0 balked")
-        self.assertEqual(lines[-1], "warning: twice.book: it is in the sums, but not among the engines and the chargers: session 2: vehicle 7 has a session already")
+        self.assertEqual(lines[-1], "warning: twice.book: it is in the sums, but not among the engines, the chargers and the fleets: session 2: vehicle 7 has a session already")
 
 
 class Tool(Commands):
@@ -238,6 +249,12 @@ class Program(Commands):
             for outcome in [4, 255]:
                 self.expect_refusal(book_bytes([session | {"outcome": outcome}]), 16)
 
+    def test_fleets(self):
+        for session in EACH:
+            for fleet in [0, 1, 64, 65, 255, 256, 257, 65535]:
+                says = self.says(book_bytes([session | {"fleet": fleet}])).split(" ")[0]
+                self.assertEqual(says, "0" if fleet <= 64 else "16")
+
     def test_fields_that_an_outcome_has_not(self):
         for session in EACH:
             for field in FIELDS:
@@ -249,7 +266,7 @@ class Program(Commands):
 
     def test_bytes_without_a_meaning(self):
         whole = book_bytes(EACH)
-        for at in [512 + 14, 512 + 15, 512 + 4 * 96, 512 + 5 * 96, 1019]:
+        for at in [512 + 4 * 96, 512 + 5 * 96, 1019]:
             self.expect_refusal(altered(whole, at, b"\1"), 16)
 
     def test_a_wrong_check_goes_before_a_wrong_field(self):

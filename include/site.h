@@ -44,6 +44,11 @@ extern "C" {
 /* A book that counts more sessions is refused by 16. */
 #define SITE_SESSIONS_MOST 64
 
+/* A plan whose vehicle names a fleet above is refused by 7, and so is one whose header gives a fleet more queue places. A book whose session
+ * has a fleet above is refused by 16. */
+#define SITE_FLEETS_MOST 64
+#define SITE_QUEUE_PLACES_MOST 64
+
 /* The most stack that a call takes, in bytes. */
 #define SITE_CHECK_STACK 40960
 #define SITE_RUN_STACK 212992
@@ -93,7 +98,7 @@ enum site_session_number {
     SITE_SESSION_CHARGER,          /* id */
     SITE_SESSION_CONNECTOR,        /* 1 CCS1, 2 CCS2, 3 CHAdeMO, 4 GB/T, 5 NACS */
     SITE_SESSION_OUTCOME,          /* one of enum site_outcome */
-    SITE_SESSION_FLEET,            /* 0: a book names no fleet */
+    SITE_SESSION_FLEET,            /* 1 to SITE_FLEETS_MOST; 0: none */
     SITE_SESSION_ARRIVAL,          /* s */
     SITE_SESSION_PLUGIN,           /* s */
     SITE_SESSION_UNPLUG,           /* s */
@@ -172,7 +177,8 @@ void site_continue(const uint8_t *plan, size_t plan_length, const uint8_t *dump,
  * run has the numbers and the book of one that was planned in full. An ended run takes a car too.
  *
  * The caller makes the longer plan, as examples/c/late.c does: one vehicle more at bytes 8 and 9 of the header, the header's check
- * made again, and the car's block behind the last one.
+ * made again, and the car's block behind the last one. The queue places of the fleets, at bytes 24 to 87 of the header, stay; so the
+ * car's fleet, at bytes 60 and 61 of its block, has those of the plan.
  *
  * plan, plan_length          the bytes of the plan that was dumped; read only
  * dump, dump_length          bytes that begin with the dump; read only. Those behind it are not read

@@ -5,6 +5,8 @@ use std::{env, fs};
 
 #[path = "slipped/book_slips.rs"]
 mod book_slips;
+#[path = "slipped/call_slips.rs"]
+mod call_slips;
 #[path = "original/change.rs"]
 mod change;
 #[path = "slipped/dump_slips.rs"]
@@ -13,6 +15,7 @@ mod dump_slips;
 mod late_slips;
 
 use book_slips::{BOOK_SLIPS, READ_BOOK};
+use call_slips::{CALL_SLIPS, CALLS, PLAN};
 use change::changed;
 use dump_slips::{DUMP_CALLS, DUMP_SLIPS};
 use late_slips::{BOOK_LATE, LATE_SLIPS};
@@ -47,10 +50,10 @@ fn main() {
 /// Copies the oracle's own calls, with the slip where it is one of theirs, and declares them for src/slipped.rs.
 fn copy_calls(here: &Path, slip: &str) {
     let out = PathBuf::from(env::var("OUT_DIR").unwrap());
-    let mut slips = DUMP_SLIPS.iter().chain(&BOOK_SLIPS).chain(&LATE_SLIPS);
+    let mut slips = CALL_SLIPS.iter().chain(&DUMP_SLIPS).chain(&BOOK_SLIPS).chain(&LATE_SLIPS);
     let slip = slips.find(|(known, _)| *known == slip).map(|(_, change)| change);
     let mut declarations = String::new();
-    for file in [DUMP_CALLS, READ_BOOK, BOOK_LATE] {
+    for file in [PLAN, CALLS, DUMP_CALLS, READ_BOOK, BOOK_LATE] {
         let source = here.join("src").join(file);
         println!("cargo::rerun-if-changed={}", source.display());
         let mut text = fs::read_to_string(&source).unwrap();

@@ -39,6 +39,7 @@ try_all() {
 }
 
 try_all original/slips.rs ''
+try_all slipped/call_slips.rs ''
 try_all slipped/dump_slips.rs --dumps
 try_all slipped/book_slips.rs --books
 try_all slipped/late_slips.rs --late

@@ -1,4 +1,4 @@
-/* Reads a book back: prints the energy of each charged session and the book's totals, or the refusal. */
+/* Reads a book back: prints the energy of each charged session, with its fleet if it has one, and the book's totals, or the refusal. */
 #include <inttypes.h>
 #include <stdio.h>
 #include <string.h>
@@ -15,6 +15,13 @@ static double energy_of(const uint64_t *session) {
     return energy;
 }
 
+static void print_charged(const uint64_t *session) {
+    printf("vehicle %" PRIu64, session[SITE_SESSION_VEHICLE]);
+    if (session[SITE_SESSION_FLEET] != 0)
+        printf(" of fleet %" PRIu64, session[SITE_SESSION_FLEET]);
+    printf(": %.3f kWh\n", energy_of(session));
+}
+
 static void print_book(void) {
     uint64_t outcomes[SITE_OUTCOMES] = {0}, longest = 0;
     double energy = 0;
@@ -25,7 +32,7 @@ static void print_book(void) {
             longest = session[SITE_SESSION_WAIT];
         if (session[SITE_SESSION_OUTCOME] == SITE_OUTCOME_CHARGED) {
             energy += energy_of(session);
-            printf("vehicle %" PRIu64 ": %.3f kWh\n", session[SITE_SESSION_VEHICLE], energy_of(session));
+            print_charged(session);
         }
     }
     printf("%" PRIu64 " open, %" PRIu64 " charged, %" PRIu64 " reneged, %" PRIu64 " balked, %.3f kWh, longest wait %" PRIu64 " s\n",

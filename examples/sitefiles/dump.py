@@ -7,7 +7,7 @@ from sitefiles.blocks import CHECK, Damaged, Rows, test_zero
 from sitefiles.book import Book
 from sitefiles.clock import spelled
 from sitefiles.plan import MOST
-from sitefiles.sessions import MOST_SESSIONS, SESSIONS
+from sitefiles.sessions import MOST_SESSIONS, SESSIONS, of_fleet
 from sitefiles.tables import counted
 
 EVENTS = Rows("event", 16, 31)
@@ -129,14 +129,17 @@ def test_against(dump, plan):
 
 
 def in_words(dump, plan=None):
-    """A dump's lines. Without a plan its vehicles and chargers are shown by their blocks; sessions have ids in any case."""
+    """A dump's lines. Without a plan its vehicles and chargers are shown by their blocks; sessions have ids and fleets in any case."""
 
     def name(place):
         return f"{place.kind} of block {place.block}" if plan is None else f"{place.kind} {plan.part_at(place.block).id}"
 
+    def with_fleet(vehicle):
+        return name(vehicle) + ("" if plan is None else of_fleet(plan.part_at(vehicle.block).fleet()))
+
     return [
         f"dump after {counted(dump.used, 'handled event')}",
-        *section("queued, in this order", map(name, dump.queue)),
+        *section("queued, in this order", map(with_fleet, dump.queue)),
         *section("busy", (f"{name(charger)} with {name(vehicle)}" for charger, vehicle in dump.busy)),
         *section("pending, in this order", tables.aligned([[spelled(event.time), event.kind, name(event.of)] for event in dump.events])),
         *tables.show(dump.book(), plan),

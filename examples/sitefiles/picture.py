@@ -6,7 +6,7 @@ from itertools import accumulate
 from xml.sax.saxutils import escape
 
 from sitefiles.clock import minute, spelled
-from sitefiles.sessions import energy
+from sitefiles.sessions import energy, of_fleet
 from sitefiles.tables import counted, outcome_count, warnings
 
 # Lengths in pixels, times in seconds.
@@ -186,15 +186,20 @@ def stay(session, book, scale, y):
     """The bars of a session, charging and then idle, or open, and the vehicle's id."""
     end = left_at(session, book)
     if session.outcome == "open":
-        words = f"vehicle {session.vehicle}: open, from {spelled(session.plugin)}"
+        words = f"{title_of(session)}: open, from {spelled(session.plugin)}"
         return group([bar(session.plugin, end, OPEN, scale, y), *name_within(session, session.plugin, end, INK, scale, y)], words)
     charged = max(session.plugin, end - math.ceil(session.idle))
     parts = [(session.plugin, charged, CHARGING), (charged, end, IDLE)]
     lasting = [part for part in parts if part[0] < part[1]] or parts[:1]
     bars = [bar(*part, scale, y) for part in lasting]
-    words = f"vehicle {session.vehicle}: {spelled(session.plugin)} to {spelled(end)}, "
+    words = f"{title_of(session)}: {spelled(session.plugin)} to {spelled(end)}, "
     words += f"{session.energy_kwh:.3f} kWh, peak {session.peak_kw:.2f} kW, {session.connector}"
     return group(bars + name_within(session, session.plugin, charged, "white", scale, y), words)
+
+
+def title_of(session):
+    """The vehicle, with its fleet if it has one."""
+    return f"vehicle {session.vehicle}{of_fleet(session.fleet)}"
 
 
 def bar(start, end, fill, scale, y):
@@ -281,9 +286,9 @@ def departure(session, scale, y):
     start, end, name = scale.x(session.arrival), scale.x(session.arrival + session.wait), str(session.vehicle)
     label = write(end + 9, y + 4, name) if name_behind(session, scale) else write(start - 9, y + 4, name, anchor="end")
     if session.outcome == "balked":
-        return group([triangle(end, y, BALKED), label], f"vehicle {name}: drove on at {spelled(session.arrival)}")
+        return group([triangle(end, y, BALKED), label], f"{title_of(session)}: drove on at {spelled(session.arrival)}")
     waited = line(start, y, end, y, WAITING, stroke_width=2)
-    return group([waited, cross(end, y, WAITING), label], f"vehicle {name}: came at {spelled(session.arrival)}, gave up after {session.wait} s")
+    return group([waited, cross(end, y, WAITING), label], f"{title_of(session)}: came at {spelled(session.arrival)}, gave up after {session.wait} s")
 
 
 def footnotes(book, plan, top):

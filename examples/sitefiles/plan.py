@@ -6,6 +6,8 @@ from sitefiles import blocks
 
 KINDS = ["profile", "charger", "vehicle"]
 MOST = {"profile": 16, "charger": 32, "vehicle": 64}
+FLEETS = 64
+MOST_QUEUE_PLACES = 64
 
 
 @dataclass(frozen=True)
@@ -17,6 +19,10 @@ class Part:
     body: bytes
     line: int | None = None
     text: str = ""
+
+    def fleet(self):
+        """The fleet that a vehicle's block names, or None."""
+        return struct.unpack_from("<H", self.body, 60)[0] or None
 
 
 @dataclass(frozen=True)
@@ -42,16 +48,17 @@ class Plan:
         return [part.id for part in self.parts if part.kind == kind]
 
 
-def planned(name, limit, parts):
-    """The plan of these profiles, chargers and vehicles, which may come in any order."""
+def planned(name, limit, queue_places, parts):
+    """The plan of these queue places by fleet and these profiles, chargers and vehicles, which may come in any order."""
     ordered = [part for kind in KINDS for part in parts if part.kind == kind]
     counts = [sum(part.kind == kind for part in parts) for kind in KINDS]
-    return Plan(name, limit, [Part("header", None, header_body(limit, counts))] + ordered)
+    return Plan(name, limit, [Part("header", None, header_body(limit, queue_places, counts))] + ordered)
 
 
-def header_body(limit, counts):
+def header_body(limit, queue_places, counts):
     has_limit = limit is not None
-    return b"PLAN" + struct.pack("<HHHxxBxxxd", *counts, has_limit, limit if has_limit else 0.0)
+    by_fleet = bytes(queue_places.get(fleet, 0) for fleet in range(1, FLEETS + 1))
+    return b"PLAN" + struct.pack("<HHHxxBxxxd", *counts, has_limit, limit if has_limit else 0.0) + by_fleet
 
 
 def from_bytes(name, data):

@@ -4,6 +4,7 @@ import struct
 from dataclasses import dataclass
 
 from sitefiles.blocks import CONNECTORS, Damaged, Rows, test_zero
+from sitefiles.plan import FLEETS
 
 MOST_SESSIONS = 64
 SESSIONS = Rows("session", 96, 5)
@@ -12,13 +13,14 @@ OUTCOMES = ["open", "charged", "reneged", "balked"]
 
 @dataclass(frozen=True)
 class Session:
-    """One vehicle's session. A field that its outcome does not have is None. Times and durations are in seconds."""
+    """One vehicle's session. A field that its outcome does not have is None; so is the fleet, if it has none. Times and durations are in seconds."""
 
     vehicle: int
     profile: int
     charger: int | None
     connector: str | None
     outcome: str
+    fleet: int | None
     arrival: int
     plugin: int | None
     unplug: int | None
@@ -49,6 +51,7 @@ FIELDS = [
     Field("charger", 8, "<I", PLUGGED),
     Field("connector", 12, "<B", PLUGGED),
     Field("outcome", 13, "<B"),
+    Field("fleet", 14, "<H"),
     Field("arrival", 16, "<Q"),
     Field("plugin", 24, "<Q", PLUGGED),
     Field("unplug", 32, "<Q", CHARGED),
@@ -75,7 +78,6 @@ def session_at(data, start, where):
     outcome = data[start + 13]
     if outcome >= len(OUTCOMES):
         raise Damaged(f"{where}: outcome {outcome}; it can be 0 to {len(OUTCOMES) - 1}")
-    test_zero(data, start + 14, start + 16, where)
     return Session(**{field.name: field_of(data, start, field, outcome, where) for field in FIELDS})
 
 
@@ -97,6 +99,10 @@ def checked(name, value, where):
         if not 1 <= value <= len(CONNECTORS):
             raise Damaged(f"{where}: connector {value}; it can be 1 to {len(CONNECTORS)}")
         return CONNECTORS[value - 1]
+    if name == "fleet":
+        if value > FLEETS:
+            raise Damaged(f"{where}: fleet {value}; it can be 0 (none) to {FLEETS}")
+        return value or None
     if isinstance(value, float) and not 0 <= value < math.inf:
         raise Damaged(f"{where}: {name} is {value}, which is no amount")
     return value
@@ -111,13 +117,33 @@ def test_vehicles(sessions):
 
 
 def test_against(sessions, plan, file):
-    """Sessions that are shown with a plan have that plan's vehicles, profiles and chargers only."""
+    """Sessions that are shown with a plan have that plan's vehicles, profiles and chargers only, and its vehicles' fleets."""
     for kind in ("vehicle", "profile", "charger"):
         known = plan.ids(kind)
         for session in sessions:
             id = getattr(session, kind)
             if id is not None and id not in known:
                 raise Damaged(f"{kind} {id} is not in {plan.name}: the {file} is of another plan")
+    test_fleets(sessions, plan, file)
+
+
+def test_fleets(sessions, plan, file):
+    """A session has the fleet that the plan gives its vehicle."""
+    fleets = {part.id: part.fleet() for part in plan.parts if part.kind == "vehicle"}
+    for session in sessions:
+        fleet = fleets[session.vehicle]
+        if session.fleet != fleet:
+            of_vehicle = f"vehicle {session.vehicle} has {fleet_name(session.fleet)} in the {file} and {fleet_name(fleet)} in {plan.name}"
+            raise Damaged(f"{of_vehicle}: the {file} is of another plan")
+
+
+def fleet_name(fleet):
+    return "no fleet" if fleet is None else f"fleet {fleet}"
+
+
+def of_fleet(fleet):
+    """What stands behind a vehicle's name if it has a fleet."""
+    return "" if fleet is None else f" of fleet {fleet}"
 
 
 def energy(sessions):

@@ -29,12 +29,12 @@ def aligned(rows):
 
 # ---- one book
 
-SHOWN = ["vehicle", "charger", "connector", "outcome", "arrival", "plug-in", "unplug", "wait s", "charge s", "idle s", "peak kW", "kWh", "SOC"]
+SHOWN = ["vehicle", "fleet", "charger", "connector", "outcome", "arrival", "plug-in", "unplug", "wait s", "charge s", "idle s", "peak kW", "kWh", "SOC"]
 
 
 def show(book, plan=None):
     """A book's lines: what kind of run it was, its sessions, and what the reader should beware of."""
-    lines = [headline(book)] + aligned([SHOWN] + [shown(session) for session in book.sessions])
+    lines = [headline(book)] + aligned(session_rows(book.sessions))
     return lines + [f"warning: {warning}" for warning in warnings(book, plan)]
 
 
@@ -44,9 +44,23 @@ def headline(book):
     return f"{counted(len(book.sessions), 'session')} by {engine}, {counted(book.used, 'unit')} used, {end}"
 
 
+def session_rows(sessions):
+    """A title and a row for each session. Fleets have a column only where a session has one."""
+    rows = [SHOWN] + [shown(session) for session in sessions]
+    if has_fleets(sessions):
+        return rows
+    at = SHOWN.index("fleet")
+    return [row[:at] + row[at + 1 :] for row in rows]
+
+
+def has_fleets(sessions):
+    return any(session.fleet is not None for session in sessions)
+
+
 def shown(session):
     return [
         str(session.vehicle),
+        or_empty(session.fleet, str),
         or_empty(session.charger, str),
         or_empty(session.connector, str),
         session.outcome,
@@ -115,7 +129,7 @@ class Named:
 
 
 def totals(named):
-    """Sums over books as lines, with a row for each book and each charger."""
+    """Sums over books as lines, with a row for each book, each charger and each fleet."""
     total = summed([each.totals for each in named])
     by_outcome = [f"{count} {outcome}" for count, outcome in zip(total.by_outcome, OUTCOMES)]
     sessions = [session for each in named if each.book for session in each.book.sessions]
@@ -125,6 +139,7 @@ def totals(named):
         longest_wait(named),
         *aligned([SUMMED] + [summed_row(each.name, each.totals) for each in named]),
         *aligned([["charger", "sessions", "kWh"]] + by_charger(sessions)),
+        *(aligned([["fleet", *SUMMED[1:]]] + by_fleet(sessions)) if has_fleets(sessions) else []),
         *(f"warning: {each.name}: {warning}" for each in named for warning in beware(each)),
     ]
 
@@ -148,8 +163,8 @@ def waited(named):
     return next((f"vehicle {each.vehicle} ({each.outcome}) " for each in sessions if each.wait == named.totals.longest_wait), "")
 
 
-def summed_row(name, book):
-    return [name, *map(str, (book.sessions, *book.by_outcome)), f"{book.energy_kwh:.3f}", str(book.longest_wait)]
+def summed_row(name, of_it):
+    return [name, *map(str, (of_it.sessions, *of_it.by_outcome)), f"{of_it.energy_kwh:.3f}", str(of_it.longest_wait)]
 
 
 def by_charger(sessions):
@@ -161,8 +176,18 @@ def by_charger(sessions):
     return rows
 
 
+def by_fleet(sessions):
+    """A row for each fleet that had a session. Vehicles without a fleet are in none."""
+    rows = []
+    for fleet in sorted({session.fleet for session in sessions if session.fleet is not None}):
+        of_it = [session for session in sessions if session.fleet == fleet]
+        counts = tuple(sum(session.outcome == outcome for session in of_it) for outcome in OUTCOMES)
+        rows.append(summed_row(str(fleet), Totals(counts, energy(of_it), max(session.wait for session in of_it))))
+    return rows
+
+
 def beware(named):
     if named.book:
         yield from warnings(named.book)
     elif named.fault:
-        yield f"it is in the sums, but not among the engines and the chargers: {named.fault}"
+        yield f"it is in the sums, but not among the engines, the chargers and the fleets: {named.fault}"

@@ -1,4 +1,4 @@
-"""A plan from its description in text. day.txt shows the form: a kind, an id, and then fields with their values."""
+"""A plan from its description in text. day.txt shows the form: a kind, an id, and then fields with their values. fleets.txt has fleets too."""
 import math
 import re
 import struct
@@ -6,7 +6,7 @@ from dataclasses import dataclass
 
 from sitefiles import clock
 from sitefiles.blocks import CONNECTORS
-from sitefiles.plan import KINDS, MOST, Part, planned
+from sitefiles.plan import FLEETS, KINDS, MOST, MOST_QUEUE_PLACES, Part, planned
 
 NUMBER = re.compile(r"(-?(?:\d+\.?\d*|\.\d+)(?:[eE][+-]?\d+)?)([a-zA-Z%/]*)", re.ASCII)
 WHOLE = re.compile(r"-?\d+", re.ASCII)
@@ -53,6 +53,8 @@ SOC = Measure(0, 1)
 IDLE = Measure(0, 604800, "s")
 TIME = Measure(0, 1000000, "s", whole=True)
 QUEUE = Measure(0, 2**32 - 1, whole=True)
+FLEET = Measure(1, FLEETS, whole=True)
+QUEUE_PLACES = Measure(0, MOST_QUEUE_PLACES, whole=True)
 
 
 # ---- numbers
@@ -197,6 +199,7 @@ def no_more(name, words, measure):
 
 
 FIELDS = {
+    "fleet": {"places": one(QUEUE_PLACES)},
     "profile": {"battery": one(BATTERY), "points": points},
     "charger": {"power": one(POWER), "current": one(CURRENT), "voltage": one(VOLTAGE), "connectors": connectors, "leads": leads},
     "vehicle": {
@@ -207,11 +210,12 @@ FIELDS = {
         "arrival": time(TIME, clock.CLOCK, "hh:mm or hh:mm:ss"),
         "wait": time(TIME, clock.DURATION, "h:mm:ss"),
         "queue": one(QUEUE),
+        "fleet": one(FLEET),
     },
 }
 
 # Fields that a line may leave out, with what they are then.
-DEFAULTS = {"charger": {"leads": [0.0] * len(CONNECTORS)}}
+DEFAULTS = {"charger": {"leads": [0.0] * len(CONNECTORS)}, "vehicle": {"fleet": 0}}
 
 
 # ---- the bodies of the blocks
@@ -229,8 +233,8 @@ def charger_body(id, power, current, voltage, connectors, leads):
     return struct.pack("<I6s6xddd5d", id, code_bytes(connectors), power, current, voltage, *leads)
 
 
-def vehicle_body(id, profile, connectors, soc, idle, arrival, wait, queue):
-    return struct.pack("<II6s2xdddQQI", id, profile, code_bytes(connectors), *soc, idle, arrival, wait, queue)
+def vehicle_body(id, profile, connectors, soc, idle, arrival, wait, queue, fleet):
+    return struct.pack("<II6s2xdddQQIH", id, profile, code_bytes(connectors), *soc, idle, arrival, wait, queue, fleet)
 
 
 BODIES = {"profile": profile_body, "charger": charger_body, "vehicle": vehicle_body}
@@ -246,10 +250,12 @@ class Reader:
         self.name = name
         self.limit = None
         self.limit_line = None
+        self.queue_places = {}  # by fleet
         self.parts = []
-        self.lines = {kind: {} for kind in KINDS}  # of each kind the ids, each with its line
+        self.lines = {kind: {} for kind in FIELDS}  # of each kind the ids, each with its line
         self.counts = dict.fromkeys(KINDS, 0)
         self.profiles_named = []  # by vehicles: line and id
+        self.fleets_named = []  # by vehicles: line and id
         self.faults = []  # line and message
 
     def read(self, line, text):
@@ -258,10 +264,12 @@ class Reader:
         try:
             if kind == "limit":
                 self.read_limit(line, words)
+            elif kind == "fleet":
+                self.read_fleet(line, words)
             elif kind in KINDS:
                 self.read_part(line, text, kind, words)
             elif kind:
-                raise Fault(kind, f"unknown kind; a line begins with limit, {', '.join(KINDS)}")
+                raise Fault(kind, f"unknown kind; a line begins with limit, {', '.join(FIELDS)}")
         except Fault as fault:
             self.faults.append((line, str(fault)))
 
@@ -271,12 +279,17 @@ class Reader:
         self.limit_line = line
         self.limit = one(LIMIT)("limit", words)
 
+    def read_fleet(self, line, words):
+        id = self.new_id(line, "fleet", words)
+        self.queue_places[id] = field_values("fleet", id, words[1:])["places"]
+
     def read_part(self, line, text, kind, words):
         self.count(kind)
         id = self.new_id(line, kind, words)
         values = field_values(kind, id, words[1:])
         if kind == "vehicle":
             self.profiles_named.append((line, values["profile"]))
+            self.fleets_named.append((line, values["fleet"]))
         self.parts.append(Part(kind, id, BODIES[kind](id, **values), line, text))
 
     def count(self, kind):
@@ -287,7 +300,7 @@ class Reader:
     def new_id(self, line, kind, words):
         if not words:
             raise Fault(kind, "its id is missing")
-        id, _ = number("an id", words[0], ID)
+        id, _ = number(f"the id of a {kind}", words[0], FLEET if kind == "fleet" else ID)
         first = self.lines[kind].setdefault(id, line)
         if first != line:
             raise Fault(words[0], f"this id has a {kind} already, on line {first}")
@@ -299,11 +312,18 @@ class Reader:
             if id not in self.lines["profile"]:
                 self.faults.append((line, str(Fault(f"profile {id}", "there is no such profile"))))
 
+    def find_fleets(self):
+        """Every vehicle's fleet must have its line. Without one it would have no queue places, so its vehicles would never wait."""
+        for line, id in self.fleets_named:
+            if id and id not in self.lines["fleet"]:
+                self.faults.append((line, str(Fault(f"fleet {id}", f"no line gives its queue places, as fleet {id} places 4"))))
+
     def plan(self):
         self.find_profiles()
+        self.find_fleets()
         if self.faults:
             raise Unreadable("\n".join(f"{self.name}:{line}: {message}" for line, message in sorted(self.faults)))
-        return planned(self.name, self.limit, self.parts)
+        return planned(self.name, self.limit, self.queue_places, self.parts)
 
 
 def field_values(kind, id, words):

@@ -6,6 +6,8 @@ use std::{env, fs};
 
 #[path = "../slipped/book_slips.rs"]
 mod book_slips;
+#[path = "../slipped/call_slips.rs"]
+mod call_slips;
 mod change;
 mod changes;
 #[path = "../slipped/dump_slips.rs"]
@@ -72,7 +74,8 @@ fn original_folder() -> PathBuf {
 fn slip() -> Option<Change> {
     let name = env::var("SLIP").ok().filter(|name| !name.is_empty())?;
     let found = slips::SLIPS.iter().find(|(known, _)| *known == name).map(|(_, change)| *change);
-    let of_calls = dump_slips::DUMP_SLIPS.iter().chain(&book_slips::BOOK_SLIPS).chain(&late_slips::LATE_SLIPS);
+    let of_calls = call_slips::CALL_SLIPS.iter().chain(&dump_slips::DUMP_SLIPS);
+    let of_calls = of_calls.chain(&book_slips::BOOK_SLIPS).chain(&late_slips::LATE_SLIPS);
     let names: Vec<&str> = slips::SLIPS.iter().chain(of_calls).map(|(known, _)| *known).collect();
     if !names.contains(&name.as_str()) {
         stop(&format!("SLIP is {name}; known are: {}.", names.join(", ")));

@@ -4,7 +4,7 @@ use crate::change::{Change, change};
 const STD_HEAP: &str = "use std::collections::BinaryHeap;\n";
 const STAND_IN_HEAP: &str = "use binary_heap::BinaryHeap;\n";
 
-pub const CHANGES: [Change; 22] = [
+pub const CHANGES: [Change; 28] = [
     // The stand-in for the heap, and what it pops by, which is request 4's. (The map's stand-in takes the crate's own name.)
     change("containers/vehicle_list.rs", STD_HEAP, STAND_IN_HEAP),
     change("evse/charger.rs", STD_HEAP, STAND_IN_HEAP),
@@ -99,6 +99,40 @@ const DEFAULT_MAX_POWER_KW: f64 = 480.0;
 
 ",
     ),
+    // Request 9: a car that finds no charger also balks if its fleet has as many queued as it has places.
+    change(
+        "ev/vehicle.rs",
+        "    pub max_queue_length: usize,\n",
+        "    pub max_queue_length: usize,\n    pub fleet: u16,\n",
+    ),
+    change(
+        "evse/site.rs",
+        "    pub site_max_power_kw: Option<f64>,\n",
+        "    pub site_max_power_kw: Option<f64>,\n    pub fleet_places: [u8; 64],\n",
+    ),
+    change(
+        "evse/site.rs",
+        "            site_max_power_kw: None,\n",
+        "            site_max_power_kw: None,\n            fleet_places: [0; 64],\n",
+    ),
+    change(
+        "containers/waiting_queue.rs",
+        "    ///
+    /// Add a vehicle to the back of the queue.
+",
+        "    /// Fleet 0 has no such limit; the places of fleet 1 come first.
+    pub fn fleet_is_full(&self, vehicle: &crate::ev::Vehicle, vehicles: &VehicleList, places: &[u8; 64]) -> bool {
+        let fleet = usize::from(vehicle.fleet);
+        let of_the_fleet = |id: &&Uuid| vehicles.get_vehicle(id).is_ok_and(|queued| queued.fleet == vehicle.fleet);
+        fleet > 0 && self.0.iter().filter(of_the_fleet).count() >= usize::from(places[fleet - 1])
+    }
+
+    ///
+    /// Add a vehicle to the back of the queue.
+",
+    ),
+    change("simulation/discrete.rs", BALKS, BALKS_BY_FLEET),
+    change("simulation/timestep.rs", BALKS, BALKS_BY_FLEET),
     // The builder of vehicles samples; the oracle makes vehicles from the plan.
     change("ev/vehicle.rs", "use crate::distributions::{DurationSampler, ItemSampler, SocSampler};\n", ""),
     change("ev/vehicle.rs", "use rand::Rng;\n", ""),
@@ -194,6 +228,11 @@ const DEFAULT_MAX_POWER_KW: f64 = 480.0;
     ),
 ];
 
+const BALKS: &str = "} else if self.waiting_queue.len() >= vehicle.max_queue_length {\n";
+const BALKS_BY_FLEET: &str = "} else if self.waiting_queue.len() >= vehicle.max_queue_length
+                        || self.waiting_queue.fleet_is_full(vehicle, &self.vehicle_list, &self.site.fleet_places)
+                    {
+";
 const RUN: &str = "    pub fn run(&mut self) -> Result<(), SimulationError> {\n";
 const RUN_CUT: &str = "    pub fn run(&mut self, allowance: u32) -> Result<u32, SimulationError> {
         let mut used = 0;

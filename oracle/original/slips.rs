@@ -1,7 +1,7 @@
 //! Slips, each one further change, for a copy that the comparison must tell from the original.
 use crate::change::{Change, change};
 
-pub const SLIPS: [(&str, Change); 21] = [
+pub const SLIPS: [(&str, Change); 34] = [
     // The order of one second.
     (
         "arrivals-before-unplugs",
@@ -129,6 +129,41 @@ pub const SLIPS: [(&str, Change); 21] = [
             "    ) -> ChargerState {\n",
         ),
     ),
+    // The queue places of fleets.
+    ("fleet-limit-exceeded", change(QUEUE, "count() >= usize::from(places", "count() > usize::from(places")),
+    ("fleet-limit-one-short", change(QUEUE, "count() >= usize::from(places", "count() + 1 >= usize::from(places")),
+    ("no-places-no-limit", change(QUEUE, "fleet > 0 &&", "fleet > 0 && places[fleet - 1] > 0 &&")),
+    ("fleet-counts-the-whole-queue", change(QUEUE, ".filter(of_the_fleet)", "")),
+    ("fleet-counts-every-fleet", change(QUEUE, "queued.fleet == vehicle.fleet", "queued.fleet > 0")),
+    (
+        "fleet-counts-equal-connectors",
+        change(
+            QUEUE,
+            "queued.fleet == vehicle.fleet",
+            "queued.fleet == vehicle.fleet && queued.connectors == vehicle.connectors",
+        ),
+    ),
+    ("fleet-zero-limited", change(QUEUE, FROM_FLEET_ONE, FROM_FLEET_ZERO)),
+    ("fleet-by-steps-only", change("simulation/discrete.rs", OR_FLEET_IS_FULL, "")),
+    ("fleet-by-events-only", change("simulation/timestep.rs", OR_FLEET_IS_FULL, "")),
+    (
+        "both-limits-needed",
+        change(
+            "simulation/discrete.rs",
+            "|| self.waiting_queue.fleet_is_full(",
+            "&& self.waiting_queue.fleet_is_full(",
+        ),
+    ),
+    (
+        "fleet-for-the-queue-limit",
+        change(
+            "simulation/timestep.rs",
+            "self.waiting_queue.len() >= vehicle.max_queue_length",
+            "vehicle.fleet == 0 && self.waiting_queue.len() >= vehicle.max_queue_length",
+        ),
+    ),
+    ("fleet-before-the-chargers-by-events", change("simulation/discrete.rs", FREE_BY_EVENTS, FREE_AND_PLACES)),
+    ("fleet-before-the-chargers-by-steps", change("simulation/timestep.rs", FREE_BY_STEPS, FREE_AND_PLACES)),
     // The cap on the power. The first two leave request 13's law as it is: what they make of the cap still rises with it.
     (
         "caps-after-the-average",
@@ -179,6 +214,25 @@ pub const SLIPS: [(&str, Change); 21] = [
     ),
 ];
 
+const QUEUE: &str = "containers/waiting_queue.rs";
+const FROM_FLEET_ONE: &str =
+    "fleet > 0 && self.0.iter().filter(of_the_fleet).count() >= usize::from(places[fleet - 1])";
+const FROM_FLEET_ZERO: &str =
+    "self.0.iter().filter(of_the_fleet).count() >= usize::from(places[fleet.saturating_sub(1)])";
+const OR_FLEET_IS_FULL: &str =
+    "|| self.waiting_queue.fleet_is_full(vehicle, &self.vehicle_list, &self.site.fleet_places)";
+const FREE_BY_EVENTS: &str = "self
+                        .site
+                        .get_unoccupied_charger_of_type_mut(&vehicle.connectors)
+";
+const FREE_BY_STEPS: &str = "self
+                            .site
+                            .get_unoccupied_charger_of_type_mut(&vehicle.connectors)
+";
+const FREE_AND_PLACES: &str = "Some(&mut self.site)
+                        .filter(|site| !self.waiting_queue.fleet_is_full(vehicle, &self.vehicle_list, &site.fleet_places))
+                        .and_then(|site| site.get_unoccupied_charger_of_type_mut(&vehicle.connectors))
+";
 const CAPPED: &str = "            let power_start = self.power_at(soc_seg_start)?.min(max_power_kw);
             let power_end = self.power_at(soc_seg_end)?.min(max_power_kw);
             let avg_power = 0.5 * (power_start + power_end);

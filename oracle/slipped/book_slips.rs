@@ -7,7 +7,7 @@ const fn slip(name: &'static str, old: &'static str, new: &'static str) -> (&'st
     (name, change(READ_BOOK, old, new))
 }
 
-pub const BOOK_SLIPS: [(&str, Change); 58] = [
+pub const BOOK_SLIPS: [(&str, Change); 64] = [
     // Lengths and checks.
     slip("fifteen-blocks-taken", "MOST_BLOCKS: usize = 14", "MOST_BLOCKS: usize = 15"),
     slip("thirteen-blocks-at-most", "MOST_BLOCKS: usize = 14", "MOST_BLOCKS: usize = 13"),
@@ -36,9 +36,10 @@ pub const BOOK_SLIPS: [(&str, Change); 58] = [
     slip("unused-places-by-their-outcome", "all(|slot| zero(slot))", "all(|slot| slot[13] == 0)"),
     slip("behind-the-sessions-unread", "zero(&block[SESSIONS_A_BLOCK * SESSION..CHECK])", "block.len() == BLOCK"),
     // Sessions taken.
-    slip("fleet-unread", "outcome_follows && fleet == 0", "outcome_follows && fleet <= 0xffff"),
-    slip("fleet-of-one-byte", "outcome_follows && fleet == 0", "outcome_follows && fleet & 0xff == 0"),
-    slip("fleets-of-request-nine", "outcome_follows && fleet == 0", "outcome_follows && fleet <= 64"),
+    slip("fleet-unread", FLEET, "fleet <= 0xffff"),
+    slip("fleet-sixty-five-taken", FLEET, "fleet <= MOST_FLEETS + 1"),
+    slip("fleet-of-one-byte", FLEET, "fleet & 0xff <= MOST_FLEETS"),
+    slip("high-byte-of-the-fleet-unread", "u64::from(u16_at(session, 14))", "u64::from(session[14])"),
     slip("connector-none-taken", "(1..=5)", "(0..=5)"),
     slip("connector-six-taken", "(1..=5)", "(1..=6)"),
     slip("outcome-four-taken", "2 | 3 =>", "2..=4 =>"),
@@ -58,12 +59,17 @@ pub const BOOK_SLIPS: [(&str, Change); 58] = [
     slip("balked-without-wait", "2 | 3 =>", "3 if session[9] > 0 => false,\n        2 | 3 =>"),
     slip("charger-of-id-zero-refused", "1 => code", "1 => code && charger > 0"),
     slip("not-a-number-refused", "1 => code", "1 => code && !f64::from_bits(energy).is_nan()"),
+    slip("fleets-refused", FLEET, "fleet == 0"),
+    slip("fleet-sixty-four-refused", FLEET, "fleet < MOST_FLEETS"),
+    slip("fleet-of-plugged-in-cars-alone", FLEET, "fleet <= MOST_FLEETS && (fleet == 0 || outcome <= 1)"),
     slip("open-by-events-refused", HEADER_ZEROS, OPEN_BY_EVENTS),
     slip("open-at-the-end-refused", HEADER_ZEROS, OPEN_AT_THE_END),
     slip("id-twice-refused", HEADER_ZEROS, ID_TWICE),
     // What comes back.
     slip("not-a-number-in-one-pattern", COPIED, ONE_PATTERN),
     slip("minus-zero-made-zero", COPIED, PLUS_ZERO),
+    slip("fleet-not-given", COPIED, "sixteen.copy_from_slice(&numbers(slot));\n            sixteen[5] = 0;"),
+    slip("fleet-of-charged-cars-alone", COPIED, CHARGED_ALONE),
     slip("fleet-before-outcome", COPIED, "sixteen.copy_from_slice(&numbers(slot));\n            sixteen.swap(4, 5);"),
     slip("used-of-half-the-bits", "u64_at(book, 8)]", "u64::from(u32_at(book, 8))]"),
     slip("numbers-past-the-last-left", "        sessions.fill(0);\n", ""),
@@ -81,6 +87,7 @@ const SOUND: &str = "    if !sound(book) {";
 const CHECKS: &str = "wrong_checks(book).next().is_none()";
 const LENGTH: &str = "book.len() == book_bytes(count)";
 const HEADER_ZEROS: &str = "\n        && zero(&header[16..CHECK])";
+const FLEET: &str = "fleet <= MOST_FLEETS";
 const PLUG_IN: &str = "[charger, connector, plugin, idle, end]";
 const UNPLUG: &str = "[unplug, duration, peak, energy]";
 const ACCEPTED: &str = "    if answer[0] == 0 {";
@@ -109,6 +116,10 @@ const ID_TWICE: &str = "
         && zero(&header[16..CHECK])
         && slots(blocks).take(count).skip(1).all(|slot| slot[..4] != blocks[..4])";
 const COPIED: &str = "sixteen.copy_from_slice(&numbers(slot));";
+const CHARGED_ALONE: &str = "sixteen.copy_from_slice(&numbers(slot));
+            if sixteen[4] != 1 {
+                sixteen[5] = 0;
+            }";
 const ONE_PATTERN: &str = "sixteen.copy_from_slice(&numbers(slot));
             for bits in sixteen[10..].iter_mut().filter(|bits| f64::from_bits(**bits).is_nan()) {
                 *bits = f64::NAN.to_bits();

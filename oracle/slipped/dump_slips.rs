@@ -7,7 +7,7 @@ const fn slip(name: &'static str, old: &'static str, new: &'static str) -> (&'st
     (name, change(DUMP_CALLS, old, new))
 }
 
-pub const DUMP_SLIPS: [(&str, Change); 19] = [
+pub const DUMP_SLIPS: [(&str, Change); 20] = [
     // What the dump shows.
     slip(
         "events-by-vehicle",
@@ -24,6 +24,7 @@ pub const DUMP_SLIPS: [(&str, Change); 19] = [
     slip("queue-by-place", "queue = simulation.queue();", "mut queue = simulation.queue();\n    queue.sort();"),
     slip("busy-by-vehicle", BUSY, "mut busy = simulation.busy();\n    busy.sort_by_key(|(_, vehicle)| *vehicle);"),
     slip("busy-by-unplug", BUSY, BUSY_BY_UNPLUG),
+    slip("dumped-without-fleets", "sessions: run.sessions(),", WITHOUT_FLEETS),
     // What is refused, and in which order.
     slip("steps-dumped", "(1, engine != 0)", "(1, engine > 1)"),
     slip("dump-buffer-a-byte-short", "(13, dump < LEAST_DUMP)", "(13, dump + 1 < LEAST_DUMP)"),
@@ -64,6 +65,8 @@ const GO_ON: &str = "    run.go_on(further);";
 const BUSY_BY_UNPLUG: &str = "mut busy = simulation.busy();
     let turn = |charger| simulation.pending().iter().position(|event| event.charger_id == Some(charger));
     busy.sort_by_key(|(charger, _)| turn(*charger));";
+const WITHOUT_FLEETS: &str =
+    "sessions: run.sessions().into_iter().map(|session| crate::book::Entry { fleet: 0, ..session }).collect(),";
 const HALF_THE_BITS: &str = "given: &[u8]) -> Result<EventRun, Refusal> {
     let given = &mut given.to_vec();
     if given.len() >= 512 {

@@ -7,7 +7,7 @@ const fn slip(name: &'static str, old: &'static str, new: &'static str) -> (&'st
     (name, change(BOOK_LATE, old, new))
 }
 
-pub const LATE_SLIPS: [(&str, Change); 46] = [
+pub const LATE_SLIPS: [(&str, Change); 47] = [
     // When the car may arrive.
     slip("arrival-at-the-last-second", LATER, "u64_at(car, ARRIVAL) >= last"),
     slip("arrival-two-seconds-later", LATER, "u64_at(car, ARRIVAL) > last + 1"),
@@ -42,6 +42,7 @@ pub const LATE_SLIPS: [(&str, Change); 46] = [
     slip("vehicles-not-raised", "u16_at(plan, VEHICLES) + 1", "u16_at(plan, VEHICLES)"),
     slip("old-check-kept", "    reseal(&mut longer, 0);\n", ""),
     slip("check-of-the-car-made", "reseal(&mut longer, 0)", "crate::blocks::seal_all(&mut longer)"),
+    slip("places-lost", "    reseal(&mut longer, 0);\n", "    longer[24..88].fill(0);\n    reseal(&mut longer, 0);\n"),
     slip("car-first-among-the-vehicles", "= [plan, car].concat();", CAR_FIRST),
     slip("longer-plan-unchecked", LONGER, "accepted(&with_car(plan, car)).or_else(|_| accepted(plan))?"),
     slip("pairs-unchecked", LONGER, PAIRS_UNCHECKED),

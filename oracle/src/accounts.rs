@@ -2,7 +2,7 @@
 use crate::blocks::{BLOCK, f64_at, u16_at, u32_at, u64_at};
 use crate::book::{LEAST_BOOK, slots};
 use crate::generate::Case;
-use crate::plan::{self, Plan};
+use crate::plan::{self, Plan, Vehicle};
 use crate::{Numbers, run};
 
 type Found = Result<(), String>;
@@ -69,6 +69,7 @@ fn sessions(plan: &Plan, run: &Run) -> Found {
         seen.push(id);
         let vehicle = plan.vehicles.iter().find(|vehicle| vehicle.id == id).ok_or("an unknown vehicle")?;
         demand(u32_at(session, 4) == plan.profiles[vehicle.profile].id, "the vehicle's profile")?;
+        demand(u16_at(session, 14) == vehicle.fleet, "the vehicle's fleet")?;
         demand(u64_at(session, 16) == vehicle.arrival, "the vehicle's arrival")?;
         demand(u64_at(session, 40) <= vehicle.wait, "nobody waits longer than the longest wait")?;
         if session[13] == 1 {
@@ -86,6 +87,16 @@ fn fits(plan: &Plan, vehicle: usize, charger: usize) -> bool {
     or_nacs(&plan.vehicles[vehicle].codes).iter().any(|code| has.contains(code))
 }
 
+/// How many of the queued are of a fleet.
+fn of_fleet(plan: &Plan, queued: &[usize], fleet: u16) -> usize {
+    queued.iter().filter(|v| plan.vehicles[**v].fleet == fleet).count()
+}
+
+fn fleets_keep_to_their_places(plan: &Plan, queued: &[usize]) -> Found {
+    let keeps = |(fleet, places): (u16, &u8)| of_fleet(plan, queued, fleet) <= usize::from(*places);
+    demand((1..).zip(&plan.places).all(keeps), "no fleet's queue exceeds its places")
+}
+
 /// After a round of steps: a queued vehicle has arrived and has no session; a busy charger has an open one.
 fn no_free_charger_fits(plan: &Plan, run: &Run) -> Found {
     let sessions = run.sessions();
@@ -95,6 +106,7 @@ fn no_free_charger_fits(plan: &Plan, run: &Run) -> Found {
     let waits = |v: &usize| plan.vehicles[*v].arrival < run.numbers[3] && !known.contains(&plan.vehicles[*v].id);
     let queued: Vec<usize> = (0..plan.vehicles.len()).filter(waits).collect();
     demand(queued.len() as u64 == run.numbers[6], "the queued are those that arrived and have no session")?;
+    fleets_keep_to_their_places(plan, &queued)?;
     let free = (0..plan.chargers.len()).filter(|c| !busy.contains(&plan.chargers[*c].id));
     for charger in free {
         demand(queued.iter().all(|v| !fits(plan, *v, charger)), "no free charger fits a queued vehicle")?;
@@ -117,7 +129,7 @@ pub fn two_runs(engine: u32, shorter: &Run, longer: &Run) -> Found {
     let (few, more) = (shorter.sessions(), longer.sessions());
     demand(few.len() <= more.len(), "sessions are only appended")?;
     for (before, after) in few.iter().zip(&more) {
-        demand(before[..13] == after[..13] && before[16..32] == after[16..32], "a session keeps its places")?;
+        demand(before[..13] == after[..13] && before[14..32] == after[14..32], "a session keeps its places")?;
         demand(before[13] == 0 || before == after, "a closed session never changes")?;
         demand(before[13] != 0 || after[13] < 2, "an open session is charged or stays open")?;
     }
@@ -150,7 +162,7 @@ pub fn event_by_event(bytes: &[u8]) -> Result<u64, String> {
     if before.numbers[0] != 0 {
         return Ok(0);
     }
-    let mut units = 0;
+    let (mut units, mut queued) = (0, Vec::new());
     while let Some(at) = (0..pending.len()).min_by_key(|at| pending[*at]) {
         let (time, event) = pending.remove(at);
         units += 1;
@@ -159,13 +171,16 @@ pub fn event_by_event(bytes: &[u8]) -> Result<u64, String> {
         demand(new <= 1, "a unit adds at most one session")?;
         let session = after.sessions().last().filter(|_| new == 1).map(|session| session.to_vec());
         popped(&plan, event, time, session.as_deref(), &before, &after)?;
+        if let Pending::Arrival(v) = event {
+            waits_or_balks(&plan, v, session.as_deref(), &queued)?;
+        }
         if let Some(session) = session.filter(|session| session[13] == 1) {
             let id = u32_at(&session, 8);
             let place = plan.chargers.iter().position(|charger| charger.id == id);
             let place = place.ok_or("a session's charger is one of the plan's")?;
             pending.push((u64_at(&session, 32), Pending::Unplug(place, id)));
         }
-        free_and_queued(&plan, &pending, &after)?;
+        queued = free_and_queued(&plan, &pending, &after)?;
         demand(after.numbers[4] == u64::from(pending.is_empty()), "a run has ended when no event is left")?;
         before = after;
     }
@@ -174,7 +189,8 @@ pub fn event_by_event(bytes: &[u8]) -> Result<u64, String> {
 }
 
 /// A charger is busy while its unplug is pending; a vehicle is queued once it arrived, until it has a session.
-fn free_and_queued(plan: &Plan, pending: &[(u64, Pending)], after: &Run) -> Found {
+/// Gives the queued ones.
+fn free_and_queued(plan: &Plan, pending: &[(u64, Pending)], after: &Run) -> Result<Vec<usize>, String> {
     let busy: Vec<u32> = pending
         .iter()
         .filter_map(|(_, event)| if let Pending::Unplug(_, id) = event { Some(*id) } else { None })
@@ -185,10 +201,23 @@ fn free_and_queued(plan: &Plan, pending: &[(u64, Pending)], after: &Run) -> Foun
     let queued: Vec<usize> =
         (0..plan.vehicles.len()).filter(arrived).filter(|v| !known.contains(&plan.vehicles[*v].id)).collect();
     demand(queued.len() as u64 == after.numbers[6], "the queued are those that arrived and have no session")?;
+    fleets_keep_to_their_places(plan, &queued)?;
     for charger in (0..plan.chargers.len()).filter(|c| !busy.contains(&plan.chargers[*c].id)) {
         demand(queued.iter().all(|v| !fits(plan, *v, charger)), "no free charger fits a queued vehicle")?;
     }
-    Ok(())
+    Ok(queued)
+}
+
+/// An arrival that gets no charger balks just where its own limit or its fleet's is reached by those queued before.
+fn waits_or_balks(plan: &Plan, v: usize, session: Option<&[u8]>, queued: &[usize]) -> Found {
+    let Vehicle { queue_limit, fleet, .. } = plan.vehicles[v];
+    let own = queued.len() >= queue_limit as usize;
+    let full = fleet > 0 && of_fleet(plan, queued, fleet) >= usize::from(plan.places[usize::from(fleet) - 1]);
+    match session.map(|session| session[13]) {
+        None => demand(!own && !full, "a car waits below both limits"),
+        Some(3) => demand(own || full, "a car balks at one of its limits"),
+        Some(_) => Ok(()),
+    }
 }
 
 /// What one popped event may do.

@@ -18,6 +18,24 @@ pub fn brief(arrival: u64, wait: u64, queue_limit: u32) -> Car {
     Car { start: 0.5, target: 0.5, idle: 0.0, arrival, wait, queue_limit, ..Car::default() }
 }
 
+/// One charger, busy until 100. Fleet 1 has one queue place, fleet 2 none. Cars 2 and 6 take the place, 3 and 7 find it
+/// taken; 4 may not wait, and 5 waits in no fleet. At 200 a car of fleet 2 finds the charger free.
+pub fn lane() -> Draft {
+    let car = |fleet, arrival, wait| Car { fleet, ..brief(arrival, wait, 10) };
+    let mut draft = bay(&[
+        Car { idle: 100.0, ..car(2, 0, 0) },
+        car(1, 10, 50),
+        car(1, 20, 50),
+        car(2, 30, 50),
+        car(0, 40, 60),
+        car(1, 61, 100),
+        car(1, 70, 50),
+        car(2, 200, 0),
+    ]);
+    draft.set_places(1, 1);
+    draft
+}
+
 /// M1 to M12 in order; M8 and M9 as two cars at two chargers under a site limit, for a few rounds.
 pub fn worked() -> Vec<Vec<u8>> {
     let second = |wait, queue_limit| bay(&[Car::default(), Car { arrival: 200, wait, queue_limit, ..Car::default() }]);

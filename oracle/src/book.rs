@@ -13,6 +13,8 @@ pub struct Entry {
     pub charger: Option<u32>,
     pub connector: Option<u8>,
     pub outcome: u8,
+    /// Request 9: of every outcome; 0 where the vehicle has none.
+    pub fleet: u16,
     pub arrival: u64,
     pub plugin: Option<u64>,
     pub unplug: Option<u64>,
@@ -35,7 +37,7 @@ impl Entry {
             u64::from(self.charger.unwrap_or(0)),
             u64::from(self.connector.unwrap_or(0)),
             u64::from(self.outcome),
-            0, // The fleet, until request 9.
+            u64::from(self.fleet),
             self.arrival,
             self.plugin.unwrap_or(0),
             self.unplug.unwrap_or(0),
@@ -92,6 +94,7 @@ fn write_entry(session: &mut [u8], entry: &Entry) {
     put(session, 8, &entry.charger.unwrap_or(0).to_le_bytes());
     session[12] = entry.connector.unwrap_or(0);
     session[13] = entry.outcome;
+    put(session, 14, &entry.fleet.to_le_bytes());
     put(session, 16, &entry.arrival.to_le_bytes());
     put(session, 24, &entry.plugin.unwrap_or(0).to_le_bytes());
     put(session, 32, &entry.unplug.unwrap_or(0).to_le_bytes());
@@ -118,6 +121,7 @@ fn read_entry(session: &[u8; SESSION]) -> Entry {
         charger: plugged.then(|| u32_at(session, 8)),
         connector: plugged.then(|| session[12]),
         outcome,
+        fleet: u16_at(session, 14),
         arrival: u64_at(session, 16),
         plugin: plugged.then(|| u64_at(session, 24)),
         unplug: charged.then(|| u64_at(session, 32)),

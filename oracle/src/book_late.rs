@@ -2,10 +2,10 @@
 //! which copy of it.
 use super::calls::{EventRun, MOST_UNITS, accepted, first_of, refused};
 use super::dump_calls::{run_again, state};
+use super::plan::{MOST_VEHICLES, Refusal};
 use crate::Numbers;
 use crate::blocks::{BLOCK, put, reseal, u16_at, u64_at};
 use crate::dump::{self, LEAST_DUMP};
-use crate::plan::{MOST_VEHICLES, Refusal};
 
 /// Where a plan's header has V, and a vehicle its arrival.
 const VEHICLES: usize = 8;

@@ -1,11 +1,12 @@
 //! The calls of requests 1 and 7 on both sides, and what a case draws for them.
 use crate::accounts::Run;
-use crate::blocks::{BLOCK, hash, put, put_f64, reseal, u32_at, u64_at};
+use crate::blocks::{BLOCK, hash, put, put_f64, reseal, u16_at, u32_at, u64_at};
 use crate::book::LEAST_BOOK;
 use crate::draft::Draft;
 use crate::draw::Draw;
 use crate::dump::LEAST_DUMP;
 use crate::generate::Case;
+use crate::plan::FLEET;
 use crate::sides::{first_byte, numbers, other_book_late, other_dump, other_resume, prefilled};
 use crate::words;
 use crate::{Numbers, book_late, dump, resume};
@@ -185,7 +186,7 @@ impl<'a> Bench<'a> {
         dump
     }
 
-    /// The plan with one field of one vehicle or charger changed, two vehicles swapped or one gone.
+    /// The plan with one field of one vehicle or charger changed, a fleet's places, two vehicles swapped or one gone.
     pub fn altered(&mut self, plan: &[u8]) -> Vec<u8> {
         let mut draft = Draft::of(plan).expect("an accepted plan");
         if let Some(place) = draft.chargers.len().checked_sub(1).filter(|_| self.draw.one_in(4)) {
@@ -201,7 +202,8 @@ impl<'a> Bench<'a> {
         let [one, other] = [0; 2].map(|_| self.draw.below(count) as usize);
         let vehicle = &mut draft.vehicles[one];
         let [id, arrival, wait] = [u64::from(u32_at(vehicle, 0)), u64_at(vehicle, 40), u64_at(vehicle, 48)];
-        match self.draw.below(8) {
+        let fleet = u16_at(vehicle, FLEET);
+        match self.draw.below(10) {
             0 => put(vehicle, 0, &(id + 1_000).to_le_bytes()[..4]),
             1 => put_f64(vehicle, 24, self.draw.float(0.0, 1.0)),
             2 => put_f64(vehicle, 32, self.draw.float(0.0, 20.0)),
@@ -209,6 +211,8 @@ impl<'a> Bench<'a> {
             4 => put(vehicle, 48, &(wait + 1).to_le_bytes()),
             5 => put(vehicle, 56, &self.draw.below(3).to_le_bytes()[..4]),
             6 => draft.vehicles.swap(one, other),
+            7 => put(vehicle, FLEET, &self.draw.below(4).to_le_bytes()[..2]),
+            8 => draft.set_places(fleet.max(1), self.draw.below(3) as u8),
             _ => drop(draft.vehicles.remove(one)),
         }
         draft.bytes()

@@ -5,9 +5,9 @@ use super::original::evse::{Charger, ConnectorType, Site};
 use super::original::geo::Coords;
 use super::original::session::Session;
 use super::original::simulation::{DiscreteEventSimulation, TimeStepSimulation};
+use super::plan::{self, LONGEST_STAY, Plan, Refusal};
 use crate::Numbers;
 use crate::book::{self, Entry, LEAST_BOOK};
-use crate::plan::{self, LONGEST_STAY, Plan, Refusal};
 use uuid::Uuid;
 
 pub const MOST_UNITS: u32 = 10_000_000;
@@ -104,6 +104,7 @@ impl Accepted {
         if let Some(limit) = plan.limit {
             site.site_max_power_kw(limit);
         }
+        site.fleet_places = plan.places;
         (plan, site, VehicleList::new(vehicles), ChargeProfileList::new(profiles))
     }
 
@@ -194,6 +195,7 @@ fn vehicle(place: usize, block: &plan::Vehicle) -> Vehicle {
         max_wait_s: block.wait,
         max_queue_length: block.queue_limit as usize,
         connectors: connectors(&block.codes),
+        fleet: block.fleet,
     }
 }
 
@@ -216,12 +218,14 @@ fn entries(plan: &Plan, sessions: &[Session]) -> Vec<Entry> {
 }
 
 fn entry(plan: &Plan, session: &Session) -> Entry {
+    let vehicle = &plan.vehicles[session.vehicle_id.place()];
     Entry {
-        vehicle: plan.vehicles[session.vehicle_id.place()].id,
+        vehicle: vehicle.id,
         profile: plan.profiles[session.charge_profile_id.place()].id,
         charger: session.charger_id.map(|id| plan.chargers[id.place()].id),
         connector: session.connector.map(code),
         outcome: outcome(session),
+        fleet: vehicle.fleet,
         arrival: session.arrival_time,
         plugin: session.plugin_time,
         unplug: session.unplug_time,

@@ -1,6 +1,6 @@
 //! A plan in parts, for making and altering plans.
 use crate::blocks::{BLOCK, Block, CHECK, check_of, f64_at, put, put_f64, seal, u16_at, u32_at};
-use crate::plan::{MOST_CHARGERS, MOST_PROFILES, MOST_VEHICLES};
+use crate::plan::{FLEET, MOST_CHARGERS, MOST_PROFILES, MOST_VEHICLES, PLACES};
 
 /// Blocks whose last four bytes hold how far the check is off: zero where it is right.
 #[derive(Clone, PartialEq)]
@@ -23,6 +23,15 @@ impl Draft {
     pub fn set_limit(&mut self, limit: f64) {
         self.header[12] = 1;
         put_f64(&mut self.header, 16, limit);
+    }
+
+    /// The queue places of a fleet, which is 1 to 64.
+    pub fn set_places(&mut self, fleet: u16, places: u8) {
+        self.header[PLACES][usize::from(fleet) - 1] = places;
+    }
+
+    pub fn places(&self, fleet: u16) -> u8 {
+        self.header[PLACES][usize::from(fleet) - 1]
     }
 
     /// The parts of a plan whose header agrees with its length.
@@ -124,6 +133,7 @@ pub struct Car {
     pub arrival: u64,
     pub wait: u64,
     pub queue_limit: u32,
+    pub fleet: u16,
 }
 
 impl Default for Car {
@@ -138,6 +148,7 @@ impl Default for Car {
             arrival: 100,
             wait: 1_800,
             queue_limit: 10,
+            fleet: 0,
         }
     }
 }
@@ -155,6 +166,7 @@ impl Car {
         put(&mut block, 40, &self.arrival.to_le_bytes());
         put(&mut block, 48, &self.wait.to_le_bytes());
         put(&mut block, 56, &self.queue_limit.to_le_bytes());
+        put(&mut block, FLEET, &self.fleet.to_le_bytes());
         block
     }
 

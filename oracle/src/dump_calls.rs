@@ -1,10 +1,10 @@
 //! Request 1's two calls, dump and continue, over the Rust original. `super::original` says which copy of it.
 use super::calls::{EventRun, MOST_UNITS, accepted, first_of, refused};
 use super::original::events::{Event, EventType};
+use super::plan::{Plan, Refusal};
 use crate::Numbers;
 use crate::book::LEAST_BOOK;
 use crate::dump::{self, LEAST_DUMP, Pending, State};
-use crate::plan::{Plan, Refusal};
 
 /// Runs a plan by events, and writes its book and its dump.
 pub fn dump(plan: &[u8], engine: u32, allowance: u32, book: &mut [u8], dump: &mut [u8]) -> Numbers {

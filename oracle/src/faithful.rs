@@ -1,4 +1,5 @@
 //! The calls over the original, and the reader of books.
+pub use crate::plan;
 pub use original;
 
 #[path = "book_late.rs"]

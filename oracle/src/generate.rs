@@ -8,7 +8,10 @@ use crate::draft::Draft;
 use crate::draw::Draw;
 use crate::run;
 use faults::{cut_or_extended, damaged, edges, refused};
-use site::{CONTENTION, Clock, FEW, Idle, LARGEST, MANY, NO_LENGTH, PARKED, Soc, Style, TIES, draft};
+use site::{
+    CONTENTION, Clock, FEW, FLEETS, FLEETS_AT_ONCE, Fleets, Idle, LARGE_FLEETS, LARGEST, MANY, NO_LENGTH, PARKED, Soc,
+    Style, TIES, draft,
+};
 
 #[derive(Clone)]
 pub struct Case {
@@ -23,7 +26,7 @@ pub struct Case {
 type Shape = (&'static str, u64, fn(&mut Draw) -> Case);
 
 /// Each shape with its weight.
-pub const SHAPES: [Shape; 20] = [
+pub const SHAPES: [Shape; 21] = [
     ("few", 8, |d| good(d, FEW)),
     ("contention", 14, |d| good(d, CONTENTION)),
     ("ties at one second", 16, |d| good(d, TIES)),
@@ -36,6 +39,7 @@ pub const SHAPES: [Shape; 20] = [
     ("subnormal SOC", 4, |d| good(d, Style { soc: Soc::Subnormal, points: [1, 6], ..FEW })),
     ("connectors", 6, |d| good(d, Style { connectors: true, chargers: [1, 4], ..CONTENTION })),
     ("amps by lead", 10, |d| good(d, Style { connectors: true, caps: true, chargers: [1, 4], ..CONTENTION })),
+    ("places by fleet", 12, fleets),
     ("empty", 2, empty),
     ("largest", 1, |d| good(d, LARGEST)),
     ("far times", 1, |d| good(d, Style { clock: Clock::Far, ..FEW })),
@@ -86,6 +90,15 @@ fn by_steps(draw: &mut Draw, style: Style) -> Case {
     call_by(draw, plan, 1, style.clock)
 }
 
+fn fleets(draw: &mut Draw) -> Case {
+    let style = match draw.below(16) {
+        0 => LARGE_FLEETS,
+        1..=7 => FLEETS_AT_ONCE,
+        _ => FLEETS,
+    };
+    good(draw, style)
+}
+
 fn empty(draw: &mut Draw) -> Case {
     let mut draft = draft(draw, Style { chargers: [0, 2], ..FEW });
     match draw.below(4) {
@@ -102,7 +115,8 @@ fn empty(draw: &mut Draw) -> Case {
 }
 
 fn crowd(draw: &mut Draw) -> Case {
-    let mut draft = draft(draw, Style { chargers: [0, 32], vehicles: [30, 64], ..CONTENTION });
+    let fleets = draw.pick(&[Fleets::Most, Fleets::Few, Fleets::Few, Fleets::Few]);
+    let mut draft = draft(draw, Style { chargers: [0, 32], vehicles: [30, 64], fleets, ..CONTENTION });
     for vehicle in &mut draft.vehicles {
         if !draw.one_in(8) {
             put(vehicle, 48, &draw.among(500, 5_000).to_le_bytes());
@@ -133,7 +147,7 @@ fn allowance(draw: &mut Draw, plan: &[u8], engine: u32, clock: Clock) -> u32 {
     let long = engine == 1 && matches!(clock, Clock::Day | Clock::Far);
     let some = match (engine, clock) {
         (0, _) | (_, Clock::Tight) => 24,
-        (_, Clock::Short) => 700,
+        (_, Clock::Close | Clock::Short) => 700,
         _ => 20_000,
     };
     match draw.below(12) {

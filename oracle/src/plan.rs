@@ -1,5 +1,6 @@
 //! The plan: its fields and refusals 4 to 11 of document 01's table.
 use crate::blocks::{BLOCK, CHECK, f64_at, u16_at, u32_at, u64_at, wrong_checks, zero};
+use std::ops::Range;
 
 pub const MOST_PROFILES: usize = 16;
 pub const MOST_CHARGERS: usize = 32;
@@ -8,6 +9,8 @@ pub const MOST_BLOCKS: usize = 1 + MOST_PROFILES + MOST_CHARGERS + MOST_VEHICLES
 pub const MOST_POINTS: usize = 30;
 pub const LONGEST_STAY: f64 = 604_800.0;
 const LONGEST_WAIT: u64 = 1_000_000;
+pub const MOST_FLEETS: u16 = 64;
+const MOST_PLACES: u8 = 64;
 
 #[derive(Debug, Clone, Copy, PartialEq, Eq)]
 pub struct Refusal {
@@ -43,6 +46,9 @@ pub struct Charger {
 
 /// Where the caps of the leads stand, by connector code.
 pub const CAPS: [usize; 5] = [40, 48, 56, 64, 72];
+/// Where a vehicle names its fleet, and where the header has the queue places of fleets 1 to 64.
+pub const FLEET: usize = 60;
+pub const PLACES: Range<usize> = 24..88;
 
 #[derive(Debug)]
 pub struct Vehicle {
@@ -56,11 +62,15 @@ pub struct Vehicle {
     pub arrival: u64,
     pub wait: u64,
     pub queue_limit: u32,
+    /// Request 9: 0 where it has none.
+    pub fleet: u16,
 }
 
 #[derive(Debug)]
 pub struct Plan {
     pub limit: Option<f64>,
+    /// Request 9: the queue places of fleets 1 to 64, in order.
+    pub places: [u8; 64],
     pub profiles: Vec<Profile>,
     pub chargers: Vec<Charger>,
     pub vehicles: Vec<Vehicle>,
@@ -179,7 +189,11 @@ fn header_fields(block: &[u8]) -> bool {
         1 => within(block, 16, 0.125, 65_536.0),
         _ => false,
     };
-    limit && zero(&block[10..12]) && zero(&block[13..16]) && zero(&block[24..CHECK])
+    limit
+        && zero(&block[10..12])
+        && zero(&block[13..16])
+        && block[PLACES].iter().all(|places| *places <= MOST_PLACES)
+        && zero(&block[88..CHECK])
 }
 
 fn profile_fields(block: &[u8]) -> bool {
@@ -216,7 +230,8 @@ fn vehicle_fields(block: &[u8]) -> bool {
         && within(block, 32, 0.0, LONGEST_STAY)
         && u64_at(block, 40) <= LONGEST_WAIT
         && u64_at(block, 48) <= LONGEST_WAIT
-        && zero(&block[60..CHECK])
+        && u16_at(block, FLEET) <= MOST_FLEETS
+        && zero(&block[62..CHECK])
 }
 
 fn points(block: &[u8]) -> Vec<(f64, f64)> {
@@ -265,9 +280,11 @@ fn plan_of(blocks: &Blocks) -> Plan {
         arrival: u64_at(block, 40),
         wait: u64_at(block, 48),
         queue_limit: u32_at(block, 56),
+        fleet: u16_at(block, FLEET),
     };
     Plan {
         limit: (blocks.bytes[12] == 1).then(|| f64_at(blocks.bytes, 16)),
+        places: blocks.bytes[PLACES].try_into().unwrap(),
         profiles: blocks.of(Kind::Profile).map(profile).collect(),
         chargers: blocks.of(Kind::Charger).map(charger).collect(),
         vehicles: blocks.of(Kind::Vehicle).map(vehicle).collect(),

@@ -5,6 +5,7 @@ use crate::{Header, Numbers, Sessions};
 
 const MOST_BLOCKS: usize = 14;
 const MOST_SESSIONS: usize = 64;
+const MOST_FLEETS: u64 = 64;
 
 /// Reads a book's header and sessions. A refusal leaves both as they were.
 pub fn read_book(book: &[u8], header: &mut Header, sessions: &mut Sessions) -> Numbers {
@@ -60,7 +61,7 @@ pub fn numbers(session: &[u8; SESSION]) -> [u64; 16] {
     ]
 }
 
-/// The outcome is known, what it leaves out is zero, and a connector that is there has a code.
+/// The outcome and the fleet are known, what the outcome leaves out is zero, and a connector that is there has a code.
 fn follows(session: &[u64; 16]) -> bool {
     let [_, _, charger, connector, outcome, fleet, _, plugin, unplug, _, duration, idle, peak, energy, _, end] =
         *session;
@@ -74,5 +75,5 @@ fn follows(session: &[u64; 16]) -> bool {
         2 | 3 => lacks(&of_a_plug_in) && lacks(&of_an_unplug),
         _ => false,
     };
-    outcome_follows && fleet == 0
+    outcome_follows && fleet <= MOST_FLEETS
 }

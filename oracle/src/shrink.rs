@@ -1,15 +1,15 @@
 //! Makes a case that shows a difference smaller, as long as it still shows one.
-use crate::blocks::{BLOCK, Block, f64_at, put, put_f64, reseal, u32_at, u64_at};
+use crate::blocks::{BLOCK, Block, f64_at, put, put_f64, reseal, u16_at, u32_at, u64_at};
 use crate::book::LEAST_BOOK;
 use crate::draft::{Draft, points, set_points};
 use crate::generate::Case;
-use crate::plan::CAPS;
+use crate::plan::{CAPS, FLEET, MOST_FLEETS, PLACES};
 
 /// The smallest case found by greedy steps, each of which keeps `differs` true.
 pub fn shrink(mut case: Case, differs: impl Fn(&Case) -> bool) -> Case {
     loop {
         let before = (case.plan.clone(), case.allowance, case.book, case.engine);
-        for step in [calls, drops, times, values, raw] {
+        for step in [calls, drops, fleets, times, values, raw] {
             while let Some(smaller) = step(&case).into_iter().find(|smaller| differs(smaller)) {
                 case = smaller;
             }
@@ -78,6 +78,46 @@ fn drops(case: &Case) -> Vec<Case> {
         smaller.push(with(case, less));
     }
     smaller
+}
+
+/// All fleets and places gone; fewer places; one fleet's cars or one car in none, or in a fleet of a smaller number.
+fn fleets(case: &Case) -> Vec<Case> {
+    let Some(draft) = Draft::of(&case.plan) else { return Vec::new() };
+    let mut smaller = vec![draft.clone()];
+    smaller[0].header[PLACES].fill(0);
+    smaller[0].vehicles.iter_mut().for_each(|vehicle| vehicle[FLEET..FLEET + 2].fill(0));
+    for fleet in 1..=MOST_FLEETS {
+        let places = draft.places(fleet);
+        for fewer in [0, 1, places / 2, places.saturating_sub(1)].into_iter().filter(|fewer| *fewer < places) {
+            let mut less = draft.clone();
+            less.set_places(fleet, fewer);
+            smaller.push(less);
+        }
+        let has = |fleet| draft.vehicles.iter().any(|vehicle| u16_at(vehicle, FLEET) == fleet);
+        if has(fleet) {
+            smaller.extend((1..fleet).find(|other| !has(*other)).map(|other| renamed(&draft, fleet, other)));
+            smaller.push(renamed(&draft, fleet, 0));
+        }
+    }
+    for k in (0..draft.vehicles.len()).filter(|k| u16_at(&draft.vehicles[*k], FLEET) > 0) {
+        let mut less = draft.clone();
+        less.vehicles[k][FLEET..FLEET + 2].fill(0);
+        smaller.push(less);
+    }
+    smaller.into_iter().filter(|less| *less != draft).map(|less| with(case, less)).collect()
+}
+
+/// A fleet's cars in another fleet, which takes its places, or in none.
+fn renamed(draft: &Draft, fleet: u16, other: u16) -> Draft {
+    let mut renamed = draft.clone();
+    for vehicle in renamed.vehicles.iter_mut().filter(|vehicle| u16_at(*vehicle, FLEET) == fleet) {
+        put(vehicle, FLEET, &other.to_le_bytes());
+    }
+    if other > 0 {
+        renamed.set_places(other, draft.places(fleet));
+    }
+    renamed.set_places(fleet, 0);
+    renamed
 }
 
 /// Earlier arrivals and shorter waits, all together or one by one.

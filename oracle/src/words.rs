@@ -4,7 +4,7 @@ use crate::book::{self, LEAST_BOOK, slots};
 use crate::draft::{Draft, points};
 use crate::faithful::read_book;
 use crate::generate::Case;
-use crate::plan::CAPS;
+use crate::plan::{CAPS, FLEET, MOST_FLEETS};
 use std::fmt::Write;
 
 pub fn describe(case: &Case) -> String {
@@ -44,6 +44,9 @@ fn parts(draft: &Draft) -> String {
     if draft.header[12] != 0 {
         let _ = writeln!(text, "  site limit {:?} kW (byte 12 is {})", f64_at(&draft.header, 16), draft.header[12]);
     }
+    for fleet in (1..=MOST_FLEETS).filter(|fleet| draft.places(*fleet) > 0) {
+        let _ = writeln!(text, "  fleet {fleet}: {} queue places", draft.places(fleet));
+    }
     for block in &draft.profiles {
         let _ = writeln!(
             text,
@@ -75,7 +78,7 @@ fn parts(draft: &Draft) -> String {
 
 fn vehicle(block: &[u8]) -> String {
     format!(
-        "vehicle {}: profile {}, {} codes {:?}, SOC {:?} to {:?}, idle {:?} s, arrival {}, wait {}, queue limit {}",
+        "vehicle {}: profile {}, {} codes {:?}, SOC {:?} to {:?}, idle {:?} s, arrival {}, wait {}, queue limit {}, fleet {}",
         u32_at(block, 0),
         u32_at(block, 4),
         block[8],
@@ -85,7 +88,8 @@ fn vehicle(block: &[u8]) -> String {
         f64_at(block, 32),
         u64_at(block, 40),
         u64_at(block, 48),
-        u32_at(block, 56)
+        u32_at(block, 56),
+        u16_at(block, FLEET)
     )
 }
 

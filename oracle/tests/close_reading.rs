@@ -495,7 +495,7 @@ mod the_table {
     #[test]
     fn every_unnamed_byte_is_zero() {
         let named: [&[std::ops::Range<usize>]; 4] =
-            [&[0..10, 12..13, 16..24], &[0..6, 8..32], &[0..10, 16..40], &[0..14, 16..60]];
+            [&[0..10, 12..13, 16..88], &[0..6, 8..32], &[0..10, 16..40], &[0..14, 16..61]];
         let draft = bay(&[Car::default()]);
         for (block, named) in named.iter().enumerate() {
             for at in (0..508).filter(|at| !named.iter().any(|range| range.contains(at))) {

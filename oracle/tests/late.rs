@@ -339,9 +339,10 @@ mod the_longer_plan {
 
     #[test]
     fn has_fields_within_their_limits() {
-        for at in [14, 15, 60, 61, 507] {
+        for at in [14, 15, 61, 62, 507] {
             assert_eq!(changed(|car| car[at] = 1), [7, 5, 0], "byte {at}");
         }
+        assert_eq!([64, 65].map(|fleet| changed(|car| car[60] = fleet)[0]), [0, 7]);
         assert_eq!(changed(|car| car[8] = 6), [7, 5, 0]);
         assert_eq!(changed(|car| put(car, 8, &[1, 6])), [7, 5, 0]);
         assert_eq!(changed(|car| put(car, 48, &1_000_001u64.to_le_bytes())), [7, 5, 0]);

@@ -53,6 +53,7 @@ fn full(outcome: u8) -> Entry {
         charger: plugged.then_some(13),
         connector: plugged.then_some(2),
         outcome,
+        fleet: 18,
         arrival: 14,
         plugin: plugged.then_some(15),
         unplug: charged.then_some(16),
@@ -94,13 +95,13 @@ mod what_comes_back {
     #[test]
     fn each_number_from_its_bytes() {
         let mut session: Vec<u8> = (1..=96).collect();
-        session[12..16].copy_from_slice(&[5, 1, 0, 0]);
+        session[12..16].copy_from_slice(&[5, 1, 64, 0]);
         let header = block(&[(0, b"BOOK"), (4, &[1, 0, 1, 1]), (8, &[1; 8])], 0);
         let mut book = [header, block(&[(0, &session)], 0)].concat();
         seal_all(&mut book);
         let (header, sessions) = read(&book).unwrap();
         assert_eq!(header, [1, 1, 1, 0x0101_0101_0101_0101]);
-        assert_eq!(sessions[..6], [0x0403_0201, 0x0807_0605, 0x0c0b_0a09, 5, 1, 0]);
+        assert_eq!(sessions[..6], [0x0403_0201, 0x0807_0605, 0x0c0b_0a09, 5, 1, 64]);
         let wide: Vec<u64> = (16..96).step_by(8).map(|at| u64_at(&session, at)).collect();
         assert_eq!(sessions[6..16], wide, "arrival to wait, then charge duration to end, as they stand");
     }
@@ -131,14 +132,14 @@ mod what_comes_back {
         let bits = f64::to_bits;
         assert_eq!(
             sessions[..16],
-            [11, 12, 13, 2, 0, 0, 14, 15, 0, 17, 0, bits(2.5), 0, 0, bits(0.25), bits(0.75)],
+            [11, 12, 13, 2, 0, 18, 14, 15, 0, 17, 0, bits(2.5), 0, 0, bits(0.25), bits(0.75)],
             "open: idle and end, no energy so far"
         );
         let charged = [bits(1.5), bits(2.5), bits(3.5), bits(4.5), bits(0.25), bits(0.75)];
-        assert_eq!(sessions[16..26], [11, 12, 13, 2, 1, 0, 14, 15, 16, 17]);
+        assert_eq!(sessions[16..26], [11, 12, 13, 2, 1, 18, 14, 15, 16, 17]);
         assert_eq!(sessions[26..32], charged);
         for outcome in [2, 3] {
-            let gone = [11, 12, 0, 0, outcome, 0, 14, 0, 0, 17, 0, 0, 0, 0, bits(0.25), 0];
+            let gone = [11, 12, 0, 0, outcome, 18, 14, 0, 0, 17, 0, 0, 0, 0, bits(0.25), 0];
             assert_eq!(sessions[16 * outcome as usize..][..16], gone);
         }
     }
@@ -414,9 +415,18 @@ mod refused_by_16 {
         for unused in at(7)..2 * BLOCK + BLOCK - 4 {
             assert_eq!(number(&with(&book, unused, &[1])), 16, "byte {unused}");
         }
+    }
+
+    #[test]
+    fn fleets() {
+        let book = of_count(7);
         for k in 0..7 {
-            for fleet in [[1, 0], [64, 0], [0, 1], [0, 128], [255, 255]] {
-                assert_eq!(number(&with(&book, at(k) + 14, &fleet)), 16, "bytes 14 and 15 of session {k}");
+            for fleet in (65..1_000).chain([1 << 14, 1 << 15, u16::MAX]) {
+                assert_eq!(number(&with(&book, at(k) + 14, &fleet.to_le_bytes())), 16, "fleet {fleet} of session {k}");
+            }
+            for fleet in 0..=64 {
+                let (_, sessions) = read(&with(&book, at(k) + 14, &[fleet])).unwrap();
+                assert_eq!(sessions[16 * k + 5], u64::from(fleet));
             }
         }
     }
@@ -483,7 +493,7 @@ mod their_order {
     fn a_late_check_before_an_early_field() {
         let book = of_count(64);
         for (at_field, bytes) in
-            [(0, [0]), (4, [65]), (6, [2]), (7, [2]), (16, [1]), (at(0) + 13, [4]), (at(63) + 14, [1])]
+            [(0, [0]), (4, [65]), (6, [2]), (7, [2]), (16, [1]), (at(0) + 13, [4]), (at(63) + 14, [65])]
         {
             let wrong = with(&book, at_field, &bytes);
             assert_eq!(number(&wrong), 16);

@@ -3,6 +3,7 @@ mod common;
 
 use common::{ENOUGH, EVENTS};
 use oracle::draft::Draft;
+use oracle::draw::Draw;
 use oracle::generate::{self, Case};
 use oracle::plan;
 use oracle::shrink::shrink;
@@ -38,6 +39,32 @@ fn a_case_shrinks_to_what_matters() {
         }
     }
     assert!(shrunk > 50);
+}
+
+/// A case whose run is another where every fleet has 64 places.
+#[test]
+fn fleets_shrink_to_one_without_places() {
+    let ran = |draft: &Draft| {
+        let mut book = vec![0; 7_168];
+        (oracle::run(&draft.bytes(), EVENTS, ENOUGH, &mut book), book)
+    };
+    let binds = |case: &Case| {
+        let Some(mut draft) = Draft::of(&case.plan) else { return false };
+        let before = ran(&draft);
+        draft.header[24..88].fill(64);
+        before.0[0] == 0 && before != ran(&draft)
+    };
+    let mut shrunk = 0;
+    for index in 0..60 {
+        let case = generate::shaped("places by fleet", &mut Draw::new(6, index));
+        if binds(&case) {
+            let plan = plan::read(&shrink(case, binds).plan).unwrap();
+            assert_eq!((plan.vehicles.len(), plan.chargers.len()), (1, 0), "case {index}");
+            assert_eq!((plan.vehicles[0].fleet, plan.places), (1, [0; 64]), "case {index}");
+            shrunk += 1;
+        }
+    }
+    assert!(shrunk > 20);
 }
 
 #[test]

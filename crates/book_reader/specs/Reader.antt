@@ -41,9 +41,9 @@ headerTests b =
     ∷ eqb (length b / 512) (1 + (sessionCount b + 4) / 5)
     ∷ []
 
--- the session at the index k: its fields, and zero bytes at 14 and 15
+-- the session at the index k
 unfoldable pub sessionOk : List ℕ → ℕ → Bool
-sessionOk b k = holds (sessionTests (sessionOf (drop (bookOffset k) b))) && zeros b (bookOffset k + 14) (bookOffset k + 16)
+sessionOk b k = holds (sessionTests (sessionOf (drop (bookOffset k) b)))
 
 -- the j-th block of sessions: zero bytes from the end of its last session up to its check
 unfoldable pub restOk : List ℕ → ℕ → Bool
@@ -93,10 +93,10 @@ abbrev pub headerAfter : Reading → List ℕ → List ℕ
 headerAfter (refused x) old = old
 headerAfter (contents c) old = length (c .sessions) ∷ c .engine ∷ c .ended ∷ c .used ∷ []
 
--- sixteen numbers a session, floats by their bits; the sixth is the fleet
+-- sixteen numbers a session, floats by their bits
 unfoldable pub sessionNumbers : BookSession → List ℕ
 sessionNumbers x =
-    x .«vehicle_id» ∷ x .«profile_id» ∷ x .«charger_id» ∷ x .connector ∷ x .outcome ∷ 0
+    x .«vehicle_id» ∷ x .«profile_id» ∷ x .«charger_id» ∷ x .connector ∷ x .outcome ∷ x .fleet
     ∷ x .arrival ∷ x .plugin ∷ x .unplug ∷ x .wait
     ∷ x .duration ∷ x .idle ∷ x .peak ∷ x .energy ∷ x .start ∷ x .end ∷ []
 

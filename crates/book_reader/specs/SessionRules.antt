@@ -14,12 +14,14 @@ zeroUnless there x = there || eqb x 0
 abbrev pub connectorOk : Bool → ℕ → Bool
 connectorOk there code = cond there (leb 1 code && leb code 5) (eqb code 0)
 
--- outcome 0–3; for 2 and 3 all is missing but ids of vehicle and profile, outcome, arrival, wait, start; for 0 unplug, charge duration, peak, energy
+-- outcome 0–3, fleet 0–64 (request 9); for 2 and 3 all is missing but ids of vehicle and profile, outcome, fleet, arrival, wait, start; for 0
+-- unplug, charge duration, peak, energy
 abbrev pub sessionTests : BookSession → List Bool
 sessionTests x =
     let there = plugged (x .outcome) in
     let done = charged (x .outcome) in
     leb (x .outcome) 3
+    ∷ leb (x .fleet) 64
     ∷ zeroUnless there (x .«charger_id»)
     ∷ connectorOk there (x .connector)
     ∷ zeroUnless there (x .plugin)

@@ -50,13 +50,14 @@ fn connector_ok(there: bool, code: u8) -> bool
     code == 0
 }
 
-// The outcome is one of the four, and what it has not is zero.
+// The outcome is one of the four, the fleet one of 64 or none, and what the outcome has not is zero.
 pub fn session_ok(x: BookSession) -> bool
     ensures { λ r. ⌜ r ≡ holds (sessionTests x) ⌝ }
 {
     let there = plugged(x.outcome);
     let done = charged(x.outcome);
     (x.outcome <= 3)
+        & (x.fleet <= 64)
         & zero_unless(there, x.charger_id as u64)
         & connector_ok(there, x.connector)
         & zero_unless(there, x.plugin)

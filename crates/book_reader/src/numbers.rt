@@ -27,7 +27,7 @@ fn session_numbers(x: BookSession) -> [u64; 16]
         x.charger_id as u64,
         x.connector as u64,
         x.outcome as u64,
-        0,
+        x.fleet as u64,
         x.arrival,
         x.plugin,
         x.unplug,

@@ -4,9 +4,9 @@ use crate::fields::session_ok;
 use files::book_session::BookSession;
 use files::book_session::no_session;
 use plan::bytes::u8_at;
+use plan::bytes::u16_at;
 use plan::bytes::u32_at;
 use plan::bytes::u64_at;
-use plan::fields::zeros;
 ghost use mathlib.Core.Path.{_≡_};
 ghost use Prim.Native.Nat.{_+_, _/_, _≤_, _<_};
 ghost use lib.ListN.{length, getD, take};
@@ -29,6 +29,7 @@ fn read_session(s: &[u8]) -> BookSession
         charger_id: u32_at(s, 8),
         connector: u8_at(s, 12) as u8,
         outcome: u8_at(s, 13) as u8,
+        fleet: u16_at(s, 14) as u16,
         arrival: u64_at(s, 16),
         plugin: u64_at(s, 24),
         unplug: u64_at(s, 32),
@@ -71,7 +72,7 @@ pub fn sessions_ok(book: &[u8], n: usize) -> bool
     while k < n {
         let at = offset_of(k);
         let x = read_session(&book[at..]);
-        if !(session_ok(x) & zeros(book, at + 14, at + 16)) {
+        if !session_ok(x) {
             return false;
         }
         k += 1;

@@ -7,8 +7,9 @@ ghost use lib.ListN.{length};
 ghost use Rattle.plan.specs.Answer.{numbers as Answer·numbers};
 ghost use Rattle.files.specs.Demand.{ReadsBack, UnitsUsed, FreeKnown, NoFreeFits, OneSpot, OneById, AddUp, CountsOfBook, ClosedStay, ExactWaits, Handled, EventsEnd};
 ghost use Rattle.files.specs.HotDay.{HotDayOfRun, BookByRating};
+ghost use Rattle.files.specs.Fleets.{FleetsWithin, FleetsCarried, AsBefore};
 ghost use Rattle.dump.specs.Call.{dumpAnswer, dumpBook, dumpLeft, continuedTo, continuedAnswer, continuedBook};
-ghost use Rattle.dump.specs.Continued.{Unbroken, FitsBuffer, Determines, BlocksPass, Continues, Reached, InParts, EndedStays, MoreStays};
+ghost use Rattle.dump.specs.Continued.{Unbroken, FitsBuffer, Determines, BlocksPass, Continues, SessionsOfBook, Reached, InParts, EndedStays, MoreStays};
 
 // Runs a plan by events; its numbers go to `numbers`, its book to `book`, its dump to `dump`.
 #[no_mangle]
@@ -28,6 +29,7 @@ pub extern "C" fn site_dump(
     ensures determines { λ _. ⌜ Determines (now (plan .entry)) allowance (dumpAnswer (now (plan .entry)) engine allowance (length (now (book .entry))) (length (now (dump .entry)))) ⌝ }
     ensures blocks { λ _. ⌜ BlocksPass (now (plan .entry)) allowance (now (dump .exit)) (dumpAnswer (now (plan .entry)) engine allowance (length (now (book .entry))) (length (now (dump .entry)))) ⌝ }
     ensures continues { λ _. ⌜ Continues (now (plan .entry)) allowance (now (dump .exit)) (dumpAnswer (now (plan .entry)) engine allowance (length (now (book .entry))) (length (now (dump .entry)))) ⌝ }
+    ensures sessions { λ _. ⌜ SessionsOfBook (now (plan .entry)) allowance (now (dump .exit)) (now (book .exit)) (dumpAnswer (now (plan .entry)) engine allowance (length (now (book .entry))) (length (now (dump .entry)))) ⌝ }
     ensures back { λ _. ⌜ ReadsBack (now (plan .entry)) 0 allowance (now (book .exit)) (dumpAnswer (now (plan .entry)) engine allowance (length (now (book .entry))) (length (now (dump .entry)))) ⌝ }
     ensures units { λ _. ⌜ UnitsUsed (now (plan .entry)) 0 allowance (dumpAnswer (now (plan .entry)) engine allowance (length (now (book .entry))) (length (now (dump .entry)))) ⌝ }
     ensures free { λ _. ⌜ FreeKnown (now (plan .entry)) 0 allowance (dumpAnswer (now (plan .entry)) engine allowance (length (now (book .entry))) (length (now (dump .entry)))) ⌝ }
@@ -42,6 +44,9 @@ pub extern "C" fn site_dump(
     ensures events { λ _. ⌜ EventsEnd (now (plan .entry)) 0 allowance (dumpAnswer (now (plan .entry)) engine allowance (length (now (book .entry))) (length (now (dump .entry)))) ⌝ }
     ensures hot_day { λ _. ⌜ HotDayOfRun (now (plan .entry)) (dumpAnswer (now (plan .entry)) engine allowance (length (now (book .entry))) (length (now (dump .entry)))) ⌝ }
     ensures rating { λ _. ⌜ BookByRating (now (plan .entry)) 0 (now (book .exit)) (dumpAnswer (now (plan .entry)) engine allowance (length (now (book .entry))) (length (now (dump .entry)))) ⌝ }
+    ensures fleets { λ _. ⌜ FleetsWithin (now (plan .entry)) 0 allowance (dumpAnswer (now (plan .entry)) engine allowance (length (now (book .entry))) (length (now (dump .entry)))) ⌝ }
+    ensures carried { λ _. ⌜ FleetsCarried (now (plan .entry)) (now (book .exit)) (dumpAnswer (now (plan .entry)) engine allowance (length (now (book .entry))) (length (now (dump .entry)))) ⌝ }
+    ensures no_fleets { λ _. ⌜ AsBefore (now (plan .entry)) (dumpAnswer (now (plan .entry)) engine allowance (length (now (book .entry))) (length (now (dump .entry)))) ⌝ }
 {
     let answer = call::dump(plan, engine, allowance, book, dump);
     *numbers = run_numbers(answer);
@@ -77,6 +82,9 @@ pub extern "C" fn site_continue(
     ensures events { λ _. ⌜ EventsEnd (now (plan .entry)) 0 (continuedTo (now (dump .entry)) further) (continuedAnswer (now (plan .entry)) (now (dump .entry)) further (length (now (book .entry)))) ⌝ }
     ensures hot_day { λ _. ⌜ HotDayOfRun (now (plan .entry)) (continuedAnswer (now (plan .entry)) (now (dump .entry)) further (length (now (book .entry)))) ⌝ }
     ensures rating { λ _. ⌜ BookByRating (now (plan .entry)) 0 (now (book .exit)) (continuedAnswer (now (plan .entry)) (now (dump .entry)) further (length (now (book .entry)))) ⌝ }
+    ensures fleets { λ _. ⌜ FleetsWithin (now (plan .entry)) 0 (continuedTo (now (dump .entry)) further) (continuedAnswer (now (plan .entry)) (now (dump .entry)) further (length (now (book .entry)))) ⌝ }
+    ensures carried { λ _. ⌜ FleetsCarried (now (plan .entry)) (now (book .exit)) (continuedAnswer (now (plan .entry)) (now (dump .entry)) further (length (now (book .entry)))) ⌝ }
+    ensures no_fleets { λ _. ⌜ AsBefore (now (plan .entry)) (continuedAnswer (now (plan .entry)) (now (dump .entry)) further (length (now (book .entry)))) ⌝ }
 {
     let answer = resume(plan, dump, further, book);
     *numbers = run_numbers(answer);

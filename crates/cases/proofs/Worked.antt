@@ -11,6 +11,7 @@ use Rattle.curve.specs.F64.{ratio, ceiling}
 use Rattle.curve.specs.Curve.{integrateOver, curveOf}
 use Rattle.charger.specs.Lists.{All, none, also}
 use Rattle.charger.specs.Vehicle.{compatible}
+use Rattle.charger.specs.Fleet.{queuedOf, fleetFull}
 use Rattle.charger.specs.Charger.{noCharger, capOf, actualMaxPower}
 use Rattle.engine.specs.Plan.{Plan, chargerAt, fits, rated, output, stay}
 use Rattle.engine.specs.Events.{before}
@@ -27,7 +28,7 @@ use Rattle.plan.specs.Search.{firstIndex, every, each}
 use Rattle.plan.specs.Fields.{bytesIn, connectorsOk, capOk, pointCount, pointOk}
 use Rattle.plan.specs.Places.{kindAt, vehicleCount}
 use Rattle.plan.specs.Plan.{idAt, withId, newSoc, firstRefusal, checkBlocks}
-use Rattle.files.specs.Read.{readPlan, pointsOf, curveOfProfile, batteryOf, chargersOf, connectorRows, profileIndex, vehicleOf, vehicleIn, vehiclesOf, limitOf}
+use Rattle.files.specs.Read.{readPlan, pointsOf, curveOfProfile, batteryOf, chargersOf, connectorRows, profileIndex, vehicleOf, vehicleIn, vehiclesOf, queuePlacesOf, limitOf}
 use Rattle.files.specs.Pairs.{failingCharger, failingPair}
 use Rattle.files.specs.Check.{checkPlan}
 use Rattle.files.proofs.check.PairLaws.{plan-fine}
@@ -47,14 +48,14 @@ use Rattle.plan.specs.declared.answer.Answer.{Answer}
 use Rattle.plan.specs.declared.answer.Answer.the-variants.{Fine, Refused}
 use Rattle.plan.specs.declared.answer.Refusal.the-variants.{Broken, CannotCharge, NotLater}
 use Rattle.plan.specs.declared.answer.Rule.the-variants.{Field}
-use Rattle.cases.specs.Bay.{kwh, Bay, plan, bay, secondCar, atTarget, atOneKw, nacsCapped, lateCar}
+use Rattle.cases.specs.Bay.{kwh, Bay, plan, bay, secondCar, atTarget, atOneKw, nacsCapped, vans, lateCar}
 use Rattle.cases.specs.Cases.{events, steps, run, bookLate, Result, ifFine, backFrom, ifBooked, result, Worked, _gives_, Holds, worked}
 
 -- ---- a plan's bytes read, checked and run; each line `unfolding` has all that it computes by
 
 read : Bay → Plan
 unfolding plan block firstIndex each idAt withId pointCount
-    pointsOf curveOfProfile batteryOf chargersOf connectorRows profileIndex vehicleOf vehicleIn vehiclesOf limitOf
+    pointsOf curveOfProfile batteryOf chargersOf connectorRows profileIndex vehicleOf vehicleIn vehiclesOf queuePlacesOf limitOf
     chargerAt noCharger compatible capOf actualMaxPower integrateOver curveOf ofBits eq lt le ne add sub mul div
 read b = readPlan (plan b)
 
@@ -63,7 +64,7 @@ unfolding read passes every bytesIn connectorsOk capOk pointOk newSoc kindAt fir
 check b = checkPlan (plan b)
 
 stop : ℕ → ℕ → Bay → Stop
-unfolding read before startCharging balks uncharged fits rated output stay ceiling D.step D.chargedSession
+unfolding read before startCharging balks fleetFull queuedOf uncharged fits rated output stay ceiling D.step D.chargedSession
     allocate C.afterCharging afterIdling empty openSession plugged finalized round ofInt toUnsigned
 stop engine n b = stopOf (read b) engine n
 
@@ -120,6 +121,18 @@ lead-fine = refl
 lead-refused : check (nacsCapped (record { 0 = ratio 1 2 })) ≡ Refused (Broken Field 3)
 unfolding check
 lead-refused = refl
+
+vans-fine : check (vans 1 1) ≡ Fine
+unfolding check
+vans-fine = refl
+
+fleet-refused : check (vans 65 1) ≡ Refused (Broken Field 5)
+unfolding check
+fleet-refused = refl
+
+places-refused : check (vans 1 65) ≡ Refused (Broken Field 1)
+unfolding check
+places-refused = refl
 
 -- ---- a late booking: with M2's second car M1's longer plan is M2's
 
@@ -189,4 +202,7 @@ worked-through =
     and refl
     and by-booking 1 bay (lateCar 200) (plan (secondCar 1800 10)) late-fine m2-longer refl
     and by-booking 1 bay (lateCar 100) (longer (plan bay) (lateCar 100)) late-refused refl refl
+    and by events 10 (vans 1 1) vans-fine refl
+    and by events 10 (vans 65 1) fleet-refused refl
+    and by events 10 (vans 1 65) places-refused refl
     and none

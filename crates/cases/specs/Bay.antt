@@ -42,12 +42,14 @@ pub record Car : Type 0 where
   pub arrival : ℕ
   pub wait : ℕ
   pub queueLimit : ℕ
+  pub fleet : ℕ
 
 pub record Bay : Type 0 where
   pub battery : Kwh
   pub points : List Point
   pub maxPower : Kw
   pub caps : List Amperes
+  pub queuePlaces : List ℕ
   pub cars : List Car
 
 -- ---- its blocks; a block's id is its place in the file
@@ -60,9 +62,9 @@ block place named = named ++ bytes (508 - length named) 0 ++ bytes 4 (checkOf pl
 abbrev pub f64 : Float → List ℕ
 f64 x = bytes 8 (toBits binary64 x)
 
--- the letters PLAN; one profile, one charger, the cars
+-- the letters PLAN; one profile, one charger, the cars; no site limit; the queue places of its fleets
 abbrev pub header : Bay → List ℕ
-header b = 80 ∷ 76 ∷ 65 ∷ 78 ∷ [] ++ bytes 2 1 ++ bytes 2 1 ++ bytes 2 (length (b .cars))
+header b = 80 ∷ 76 ∷ 65 ∷ 78 ∷ [] ++ bytes 2 1 ++ bytes 2 1 ++ bytes 2 (length (b .cars)) ++ bytes 14 0 ++ b .queuePlaces
 
 abbrev pub pointFields : List Point → List ℕ
 pointFields [] = []
@@ -80,11 +82,11 @@ capFields (c ∷ cs) = f64 (c .0) ++ capFields cs
 abbrev pub charger : Bay → List ℕ
 charger b = bytes 4 3 ++ bytes 12 0 ++ f64 (b .maxPower .0) ++ f64 (ratio 1200 1) ++ f64 (ratio 400 1) ++ capFields (b .caps)
 
--- id, profile id, connector count 0, SOC start and target, idle, arrival, longest wait, queue limit
+-- id, profile id, connector count 0, SOC start and target, idle, arrival, longest wait, queue limit, fleet
 abbrev pub vehicle : ℕ → Car → List ℕ
 vehicle id c =
     bytes 4 id ++ bytes 4 2 ++ bytes 8 0 ++ f64 (c .start) ++ f64 (c .target) ++ f64 (c .idle .0)
-    ++ bytes 8 (c .arrival) ++ bytes 8 (c .wait) ++ bytes 4 (c .queueLimit)
+    ++ bytes 8 (c .arrival) ++ bytes 8 (c .wait) ++ bytes 4 (c .queueLimit) ++ bytes 2 (c .fleet)
 
 abbrev pub vehicles : ℕ → List Car → List ℕ
 vehicles place [] = []
@@ -96,14 +98,23 @@ plan b = block 1 (header b) ++ block 2 (profile b) ++ block 3 (charger b) ++ veh
 
 -- ---- the bay, and what the cases change of it
 
--- SOC 0.25 to 0.75, idle 120; by arrival, longest wait and queue limit
-abbrev pub car : ℕ → ℕ → ℕ → Car
-car arrival wait limit =
-    record { start = percent 25; target = percent 75; idle = seconds 120; arrival = arrival; wait = wait; queueLimit = limit }
+-- SOC 0.25 to 0.75, idle 120; by fleet, arrival, longest wait and queue limit
+abbrev pub van : ℕ → ℕ → ℕ → ℕ → Car
+van fleet arrival wait limit =
+    record { start = percent 25; target = percent 75; idle = seconds 120; arrival = arrival; wait = wait; queueLimit = limit; fleet = fleet }
 
--- battery 50, one point (0.5, 50), charger 50 kW; by the caps of its leads and its cars
+-- of no fleet
+abbrev pub car : ℕ → ℕ → ℕ → Car
+car = van 0
+
+-- battery 50, one point (0.5, 50), charger 50 kW; by the caps of its leads, the queue places of its fleets and its cars
+abbrev pub fleetBay : List Amperes → List ℕ → List Car → Bay
+fleetBay caps places cars =
+    record { battery = kwh 50; points = point (percent 50) (kw 50) ∷ []; maxPower = kw 50; caps = caps; queuePlaces = places; cars = cars }
+
+-- without fleets
 abbrev pub bayOf : List Amperes → List Car → Bay
-bayOf caps cars = record { battery = kwh 50; points = point (percent 50) (kw 50) ∷ []; maxPower = kw 50; caps = caps; cars = cars }
+bayOf caps cars = fleetBay caps [] cars
 
 -- arrival 100, wait 1,800, queue limit 10
 abbrev pub bay : Bay
@@ -117,7 +128,7 @@ secondCar wait limit = bayOf [] (car 100 1800 10 ∷ car 200 wait limit ∷ [])
 abbrev pub atTarget : Bay
 atTarget =
     bayOf []
-    (record { start = percent 50; target = percent 50; idle = record { 0 = ratio 3 2 }; arrival = 0; wait = 1; queueLimit = 10 } ∷ [])
+    (record { start = percent 50; target = percent 50; idle = record { 0 = ratio 3 2 }; arrival = 0; wait = 1; queueLimit = 10; fleet = 0 } ∷ [])
 
 -- M12: a battery charged at 1 kW, the point's power and the charger's, SOC 0 to 1
 abbrev pub atOneKw : Kwh → Bay
@@ -127,12 +138,17 @@ atOneKw battery =
       points = point (percent 50) (kw 1) ∷ [];
       maxPower = kw 1;
       caps = [];
-      cars = record { start = percent 0; target = percent 100; idle = seconds 120; arrival = 100; wait = 1800; queueLimit = 10 } ∷ [];
+      queuePlaces = [];
+      cars = record { start = percent 0; target = percent 100; idle = seconds 120; arrival = 100; wait = 1800; queueLimit = 10; fleet = 0 } ∷ [];
     }
 
 -- request 8: a cap on the lead with a Nacs plug, code 5, which the bay's charger and cars have
 abbrev pub nacsCapped : Amperes → Bay
 nacsCapped cap = bayOf (amperes 0 ∷ amperes 0 ∷ amperes 0 ∷ amperes 0 ∷ cap ∷ []) (car 100 1800 10 ∷ [])
+
+-- request 9: behind the bay's car two vans of a fleet, at 200 and 300, with a queue limit of 10; by the fleet and the places of fleet 1
+abbrev pub vans : ℕ → ℕ → Bay
+vans fleet places = fleetBay [] (places ∷ []) (car 100 1800 10 ∷ van fleet 200 1821 10 ∷ van fleet 300 1821 10 ∷ [])
 
 -- request 7: the block of a car that comes behind the bay's one car, by its arrival
 abbrev pub lateCar : ℕ → List ℕ

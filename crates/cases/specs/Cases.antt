@@ -1,4 +1,4 @@
--- Rules. M1 to M12 of the paper's bay, and requests 8, 1, 5 and 7 at it, worked through: one list of cases, each with what it gives.
+-- Rules. M1 to M12 of the paper's bay, and requests 8, 1, 5, 7 and 9 at it, worked through: one list of cases, each with what it gives.
 use Prim.Native.Nat.{ℕ, _+_, _-_, _*_}
 use mathlib.Core.Path.{_≡_}
 use mathlib.Core.Bool.{Bool, true, false}
@@ -40,7 +40,7 @@ use Rattle.late_booking.specs.LongerPlan.{longer}
 use Rattle.late_booking.specs.Call.{lateAnswer}
 use Rattle.book_reader.specs.Reader.{Reading, contents, readBook, sessionNumbers}
 use Rattle.book_reader.specs.Reader as R
-use Rattle.cases.specs.Bay.{kw, kwh, seconds, percent, point, plan, bay, secondCar, atTarget, atOneKw, nacsCapped, lateCar}
+use Rattle.cases.specs.Bay.{kw, kwh, seconds, percent, point, plan, bay, secondCar, atTarget, atOneKw, nacsCapped, vans, lateCar}
 
 -- ---- what a case is, and what it gives
 
@@ -197,6 +197,7 @@ firstCarAt code =
       «charger_id» = 3;
       connector = code;
       outcome = 1;
+      fleet = 0;
       arrival = 100;
       plugin = 100;
       unplug = 2020;
@@ -256,4 +257,9 @@ worked =
     bookLate 1 (plan bay) (lateCar 200) gives
     shows 1 [] (3 ∷ 4 ∷ []) ((200 ∷ 0 ∷ 5 ∷ []) ∷ (1900 ∷ 1 ∷ 4 ∷ []) ∷ (2000 ∷ 1 ∷ 5 ∷ []) ∷ (2020 ∷ 2 ∷ 3 ∷ []) ∷ []) ∷
     bookLate 1 (plan bay) (lateCar 100) gives refused NotLater ∷
+    -- request 9: of two vans of a fleet with one place the first waits and plugs in at 2,020, and the second balks; fleet 65 is refused by 7, the
+    -- first van's block 5, and a fleet of 65 places too, the header
+    run events 10 (plan (vans 1 1)) gives ended 8 (firstCar ∷ balked 2 ∷ charged 1 2020 3940 1820 halfHour (seconds 120) ∷ []) ∷
+    run events 10 (plan (vans 65 1)) gives refused (Broken Field 5) ∷
+    run events 10 (plan (vans 1 65)) gives refused (Broken Field 1) ∷
     []

@@ -5,8 +5,8 @@ use mathlib.Core.List.{List, [], _∷_, _++_, map}
 use Prim.Native.Nat.{ℕ, zero, suc, _+_, _≤_, _<_}
 use native.Mathlib.Nat.{not-suc-le-zero, le-of-suc-le-suc}
 use native.Mathlib.Omega.{arith}
-use borrow.Author.Tests.{eq-eqb, ne-eqb, eqb-true, eqb-false}
-use lib.Dec.{eqb}
+use borrow.Author.Tests.{ltb-true, ltb-false, eq-eqb, ne-eqb, eqb-true, eqb-false}
+use lib.Dec.{ltb, eqb}
 use lib.ListN.{length, getD}
 use Rattle.charger.specs.First.{Found, nobody, found, behind, foundOr, first}
 use Rattle.charger.specs.Lists.{tick, count, All, none, also}
@@ -61,6 +61,11 @@ module _ {A : Type 0} where
       go true e m = rw (h x e) (omega arith)
       go false e m = omega arith
 
+  -- tests that agree on the members
+  pub count-alike : {f g : A → Bool} {l : List A} → All (λ x. f x ≡ g x) l → count f l ≡ count g l
+  count-alike none = refl
+  count-alike (also h hs) = rw (h, count-alike hs)
+
   pub count-none : {test : A → Bool} {l : List A} → All (λ x. test x ≡ false) l → count test l ≡ 0
   count-none none = refl
   count-none (also h hs) = rw h (omega (arith, count-none hs))
@@ -72,6 +77,15 @@ module _ {A : Type 0} where
       go : (b : Bool) → tick b ≡ 0 → b ≡ false
       go true h = absurd (omega arith)
       go false h = refl
+
+  -- members of which none has a number from n on
+  pub all-placed : (number : A → ℕ) (n : ℕ) (l : List A) → ((k : ℕ) → n ≤ k → count (λ (x : A). eqb k (number x)) l ≡ 0) → All (λ x. number x < n) l
+  all-placed number n [] h = none
+  all-placed number n (x ∷ l) h = also (here (ltb (number x) n) refl) (all-placed number n l (λ k m. omega (arith, h k m)))
+    where
+      here : (t : Bool) → ltb (number x) n ≡ t → number x < n
+      here true e = ltb-true (number x) n e
+      here false e = absurd (omega (arith, ap tick (eq-eqb (number x) (number x) refl), h (number x) (ltb-false (number x) n e)))
 
   pub count-every : (l : List A) → count (λ (x : A). true) l ≡ length l
   count-every [] = refl

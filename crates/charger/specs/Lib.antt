@@ -3,6 +3,7 @@ pub mod First
 pub mod Lists
 pub mod Connector
 pub mod Vehicle
+pub mod Fleet
 pub mod Charger
 pub mod Leads
 pub mod Code

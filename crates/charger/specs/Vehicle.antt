@@ -22,6 +22,7 @@ noVehicle =
     record {
       profile = 0;
       codes = replicate 5 0;
+      fleet = 0;
       count = 0;
       start = ratio 0 1;
       target = ratio 0 1;

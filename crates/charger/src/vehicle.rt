@@ -6,9 +6,11 @@ ghost use mathlib.Core.Path.{_≡_};
 ghost use Rattle.charger.specs.Vehicle.{noVehicle, connectorOf, compatible};
 
 // `profile` is its charge profile's place in the plan. Its connectors, in its order of preference, are the first `count` codes.
+// Fleet 0 is none. It stands behind the codes, where it takes no room of its own.
 pub struct Vehicle {
     pub profile: usize,
     pub codes: [u8; 5],
+    pub fleet: u16,
     pub count: usize,
     pub start: f64,
     pub target: f64,
@@ -25,6 +27,7 @@ pub fn no_vehicle() -> Vehicle
     Vehicle {
         profile: 0,
         codes: [0; 5],
+        fleet: 0,
         count: 0,
         start: 0.0,
         target: 0.0,

@@ -9,6 +9,7 @@ ghost use lib.ListN.{take};
 ghost use Rattle.charger.specs.First.{first};
 ghost use Rattle.charger.specs.Code.Vehicles.{listed};
 ghost use Rattle.charger.specs.Vehicle.{fitsAt};
+ghost use Rattle.charger.specs.Fleet.{queuedOf, fleetFull};
 ghost use Rattle.charger.specs.Code.Queue.{waiting, seek, without, takenAt, Taken};
 
 // By their places in the plan, first in, first out: the first `len` of `ids`.
@@ -77,6 +78,37 @@ impl WaitingQueue {
             at += 1;
         }
         at
+    }
+
+    // How many of the fleet are queued.
+    fn queued_of(self, vehicles: VehicleList, fleet: u16) -> usize
+        requires { ⌜ self .len ≤ 64 ⌝ }
+        ensures { λ r. ⌜ r ≡ queuedOf (listed vehicles) fleet (waiting self) ⌝ }
+    {
+        let n = self.len;
+        let ids = self.ids;
+        let mut queued = 0;
+        let mut i = 0;
+        while i < n {
+            let vehicle = vehicles.get_vehicle(ids[i]);
+            if vehicle.fleet == fleet {
+                queued += 1;
+            }
+            i += 1;
+        }
+        queued
+    }
+
+    // The fleet has filled its places. Fleet 0 has no such limit.
+    pub fn fleet_full(self, vehicles: VehicleList, fleet: u16) -> bool
+        requires { ⌜ self .len ≤ 64 ⌝ }
+        ensures { λ r. ⌜ r ≡ fleetFull (listed vehicles) (vehicles .«queue_places») fleet (waiting self) ⌝ }
+    {
+        if fleet == 0 {
+            return false;
+        }
+        let places = vehicles.places_of(fleet) as usize;
+        places <= self.queued_of(vehicles, fleet)
     }
 
     // The queue without the member at `at`, with that member.

@@ -13,7 +13,7 @@ use Rattle.files.specs.Read.{readPlan}
 use Rattle.files.specs.Book.{sessionCount, outcomeAt, sessionAt, written}
 use Rattle.files.specs.Call.{totals, answerOf, bookOf, bookLeft}
 use Rattle.files.specs.Demand.{OfRun}
-use Rattle.dump.specs.Dump.{dumpOf, handledIn}
+use Rattle.dump.specs.Dump.{dumpOf, handledIn, sessionCount as dumpedCount, sessionAt as dumpedAt}
 use Rattle.dump.specs.Call.{continuedTo, continuedAnswer, continuedBook}
 
 -- ---- of a run of n events that wrote a dump or continued from one: n is its allowance, or the dump's handled count and the further events
@@ -45,6 +45,10 @@ module _ (plan : List ℕ) (n : ℕ) where
         OfRun
         (λ t. (further room : ℕ) → further ≤ 10000000 → 7168 ≤ room
         → continuedAnswer plan dump further room ≡ Stopped (totals (byEvents (readPlan plan) (t .used + further))))
+
+    -- its sessions are the book's, as many and byte for byte, and so they carry the fleet (request 9)
+    abbrev pub SessionsOfBook : List ℕ → RunAnswer → Type 0
+    SessionsOfBook book = OfRun (λ t. (dumpedCount dump ≡ sessionCount book) × ((k : ℕ) → k < sessionCount book → dumpedAt dump k ≡ sessionAt book k))
 
 -- ---- of a run that continued from a dump by some further events
 

@@ -20,11 +20,12 @@ ghost use Rattle.files.specs.Check.{pairAnswer};
 ghost use Rattle.files.specs.Code.Reading.{Loaded, Admitted};
 ghost use Rattle.files.specs.Demand.{ReadsBack, UnitsUsed, FreeKnown, NoFreeFits, OneSpot, OneById, AddUp, CountsOfBook, ClosedStay, ExactWaits, Handled, EventsEnd};
 ghost use Rattle.files.specs.HotDay.{HotDayOfRun, BookByRating};
+ghost use Rattle.files.specs.Fleets.{FleetsWithin, FleetsCarried, AsBefore};
 ghost use Rattle.files.specs.Pairs.{failingPair};
 ghost use Rattle.files.specs.Read.{readPlan};
 ghost use Rattle.dump.specs.Dump.{dumpOf};
 ghost use Rattle.dump.specs.Call.{dumpAnswer, dumpAfter};
-ghost use Rattle.dump.specs.Continued.{Unbroken, FitsBuffer, Determines, BlocksPass, Continues};
+ghost use Rattle.dump.specs.Continued.{Unbroken, FitsBuffer, Determines, BlocksPass, Continues, SessionsOfBook};
 
 // Runs a plan that was read and is fine, and writes its book and its dump.
 fn dump_site(
@@ -81,6 +82,7 @@ pub fn dump(plan: &[u8], engine: u32, allowance: u32, book: &mut [u8], dump: &mu
     ensures determines { λ r. ⌜ Determines (now (plan .entry)) allowance r ⌝ }
     ensures blocks { λ r. ⌜ BlocksPass (now (plan .entry)) allowance (now (dump .exit)) r ⌝ }
     ensures continues { λ r. ⌜ Continues (now (plan .entry)) allowance (now (dump .exit)) r ⌝ }
+    ensures sessions { λ r. ⌜ SessionsOfBook (now (plan .entry)) allowance (now (dump .exit)) (now (book .exit)) r ⌝ }
     ensures back { λ r. ⌜ ReadsBack (now (plan .entry)) 0 allowance (now (book .exit)) r ⌝ }
     ensures units { λ r. ⌜ UnitsUsed (now (plan .entry)) 0 allowance r ⌝ }
     ensures free { λ r. ⌜ FreeKnown (now (plan .entry)) 0 allowance r ⌝ }
@@ -95,6 +97,9 @@ pub fn dump(plan: &[u8], engine: u32, allowance: u32, book: &mut [u8], dump: &mu
     ensures events { λ r. ⌜ EventsEnd (now (plan .entry)) 0 allowance r ⌝ }
     ensures hot_day { λ r. ⌜ HotDayOfRun (now (plan .entry)) r ⌝ }
     ensures rating { λ r. ⌜ BookByRating (now (plan .entry)) 0 (now (book .exit)) r ⌝ }
+    ensures fleets { λ r. ⌜ FleetsWithin (now (plan .entry)) 0 allowance r ⌝ }
+    ensures carried { λ r. ⌜ FleetsCarried (now (plan .entry)) (now (book .exit)) r ⌝ }
+    ensures no_fleets { λ r. ⌜ AsBefore (now (plan .entry)) r ⌝ }
 {
     if 0 < engine {
         return RunAnswer::Refused(Refusal::EngineAbove);

@@ -25,6 +25,7 @@ ghost use Rattle.files.specs.Check.{pairAnswer};
 ghost use Rattle.files.specs.Code.Reading.{Loaded, Admitted};
 ghost use Rattle.files.specs.Demand.{ReadsBack, UnitsUsed, FreeKnown, NoFreeFits, OneSpot, OneById, AddUp, CountsOfBook, ClosedStay, ExactWaits, Handled, EventsEnd};
 ghost use Rattle.files.specs.HotDay.{HotDayOfRun, BookByRating};
+ghost use Rattle.files.specs.Fleets.{FleetsWithin, FleetsCarried, AsBefore};
 ghost use Rattle.files.specs.Pairs.{failingPair};
 ghost use Rattle.files.specs.Read.{readPlan};
 ghost use Rattle.dump.specs.Dump.{dumpBytes, startsWith, isDump};
@@ -142,6 +143,9 @@ pub fn resume(plan: &[u8], dump: &[u8], further: u32, book: &mut [u8]) -> RunAns
     ensures events { λ r. ⌜ EventsEnd (now (plan .entry)) 0 (continuedTo (now (dump .entry)) further) r ⌝ }
     ensures hot_day { λ r. ⌜ HotDayOfRun (now (plan .entry)) r ⌝ }
     ensures rating { λ r. ⌜ BookByRating (now (plan .entry)) 0 (now (book .exit)) r ⌝ }
+    ensures fleets { λ r. ⌜ FleetsWithin (now (plan .entry)) 0 (continuedTo (now (dump .entry)) further) r ⌝ }
+    ensures carried { λ r. ⌜ FleetsCarried (now (plan .entry)) (now (book .exit)) r ⌝ }
+    ensures no_fleets { λ r. ⌜ AsBefore (now (plan .entry)) r ⌝ }
 {
     if 10_000_000 < further {
         return RunAnswer::Refused(Refusal::AllowanceAbove);

@@ -3,6 +3,8 @@ pub mod Moves
 pub mod Laws
 pub mod Waits
 pub mod Fitted
+pub mod Fleets
+pub mod AsBefore
 pub mod Places
 pub mod At
 pub mod Simulations

@@ -139,9 +139,9 @@ stopAt p s =
 abbrev pub byEvents : Plan → ℕ → Stop
 byEvents p n = stopAt p (D.run p n)
 
-abbrev pub bySteps : Plan → ℕ → Stop
-bySteps p n =
-    let s = T.run p n in
+-- and of a run by steps
+abbrev pub stepStopAt : Plan → T.State → Stop
+stepStopAt p s =
     record {
       used = s .time;
       ended = T.ended p s;
@@ -151,6 +151,9 @@ bySteps p n =
       free = λ c. freeBySteps (lastAt c nobody (s .site .sessions));
       vacant = freeAt p (T.steps p) (s .site .places);
     }
+
+abbrev pub bySteps : Plan → ℕ → Stop
+bySteps p n = stepStopAt p (T.run p n)
 
 -- a session's wait is exact: from the arrival to the plug-in, the longest wait of a vehicle that reneged, none of one that balked
 abbrev pub WaitedBy : Outcome → Vehicle → Session → Type 0

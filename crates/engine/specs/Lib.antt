@@ -5,5 +5,6 @@ pub mod SiteState
 pub mod Discrete
 pub mod Timestep
 pub mod Demand
+pub mod Fleets
 pub mod HotDay
 pub mod Code

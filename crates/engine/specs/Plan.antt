@@ -27,7 +27,8 @@ VehiclePlace = ℕ
 abbrev pub ChargerPlace : Type 0
 ChargerPlace = ℕ
 
--- `curve` and `battery` go by profile; `connectors` has a row for each charger, which says for each code whether it has that connector
+-- `curve` and `battery` go by profile; `connectors` has a row for each charger, which says for each code whether it has that connector;
+-- `queuePlaces` are those of the fleets, from 1 on
 pub record Plan : Type 0 where
   pub limit : Limit
   pub curve : ProfilePlace → List Point
@@ -35,6 +36,7 @@ pub record Plan : Type 0 where
   pub chargers : List Charger
   pub connectors : List (List Bool)
   pub vehicles : List Vehicle
+  pub queuePlaces : List ℕ
 
 -- past the last charger there is one with no power
 unfoldable pub chargerAt : List Charger → ChargerPlace → Charger

@@ -1,5 +1,5 @@
 -- Rules. The state of a site, and what both engines do to it alike: an arrival, a renege, a freed charger.
-use mathlib.Core.Bool.{Bool, true, false, _&&_}
+use mathlib.Core.Bool.{Bool, true, false, _&&_, _||_}
 use mathlib.Core.List.{List, [], _∷_, _++_}
 use Prim.Native.Nat.{ℕ, zero, suc, _-_}
 use lib.Dec.{leb, eqb}
@@ -8,6 +8,7 @@ use Rattle.curve.specs.F64.{ratio}
 use Rattle.charger.specs.declared.vehicle.Vehicle.{Vehicle}
 use Rattle.charger.specs.First.{Found, nobody, found, first}
 use Rattle.charger.specs.Vehicle.{vehicleAt}
+use Rattle.charger.specs.Fleet.{fleetFull}
 use Rattle.engine.specs.declared.events.Event.{Event}
 use Rattle.engine.specs.declared.events.EventType.{EventType}
 use Rattle.engine.specs.declared.events.EventType.the-variants.{Arrival, Renege, Unplug}
@@ -69,9 +70,13 @@ pub record Change : Type 0 where
   pub queue : List VehiclePlace
   pub written : Written
 
--- the vehicle balks if the queue has reached its limit
-unfoldable pub balks : List Vehicle → VehiclePlace → List VehiclePlace → Bool
-balks vehicles v queue = leb (vehicleAt vehicles v .limit) (length queue)
+-- the queue has reached the vehicle's own limit
+abbrev pub limitReached : List Vehicle → VehiclePlace → List VehiclePlace → Bool
+limitReached vehicles v queue = leb (vehicleAt vehicles v .limit) (length queue)
+
+-- a vehicle that finds no charger balks by its own limit, or if its fleet has filled its places (request 9)
+unfoldable pub balks : List Vehicle → List ℕ → VehiclePlace → List VehiclePlace → Bool
+balks vehicles places v queue = limitReached vehicles v queue || fleetFull vehicles places (vehicleAt vehicles v .fleet) queue
 
 -- no charger: balk, else wait
 abbrev pub turned : VehiclePlace → List VehiclePlace → Bool → Change
@@ -134,7 +139,7 @@ module _ (p : Plan) {A : Type 0} (g : Engine A) where
 
   -- an arrival takes the first free charger that fits, else it balks or waits
   abbrev pub arrived : Time → VehiclePlace → SiteState A → Found → SiteState A
-  arrived now v f nobody = turnedAway v f (balks (p .vehicles) v (f .queue))
+  arrived now v f nobody = turnedAway v f (balks (p .vehicles) (p .queuePlaces) v (f .queue))
   arrived now v f (found c rest) = startCharging now v c f
 
   abbrev pub reneged : Time → SiteState A → Found → SiteState A

@@ -176,7 +176,7 @@ fn arrive(
     count: usize,
 ) -> Effect
     requires { ⌜ (queue .len < 64) × (count ≤ 32) ⌝ }
-    ensures { λ r. ⌜ ((time c : ℕ) → Effected (listed vehicles) (take count rows) count EventType.Arrival time v c queue places r) ⌝ }
+    ensures { λ r. ⌜ ((time c : ℕ) → Effected (listed vehicles) (vehicles .«queue_places») (take count rows) count EventType.Arrival time v c queue places r) ⌝ }
 {
     let vehicle = vehicles.get_vehicle(v);
     let c = free_charger(free_of(places), rows, count, vehicle);
@@ -200,7 +200,7 @@ fn unplug(
     count: usize,
 ) -> Effect
     requires { ⌜ queue .len ≤ 64 ⌝ }
-    ensures { λ r. ⌜ ((time v : ℕ) → Effected (listed vehicles) (take count rows) count EventType.Unplug time v c queue places r) ⌝ }
+    ensures { λ r. ⌜ ((time v : ℕ) → Effected (listed vehicles) (vehicles .«queue_places») (take count rows) count EventType.Unplug time v c queue places r) ⌝ }
 {
     let popped = queue.pop_compatible(vehicles, row_of(rows, count, c));
     let freed = placed(places, c, 0);
@@ -229,7 +229,7 @@ fn handle(
     count: usize,
 ) -> Effect
     requires { ⌜ (queue .len + tick (isArrival (e .kind)) ≤ 64) × (count ≤ 32) ⌝ }
-    ensures { λ r. ⌜ Effected (listed vehicles) (take count rows) count (e .kind) (e .time) (e .vehicle) (e .charger) queue places r ⌝ }
+    ensures { λ r. ⌜ Effected (listed vehicles) (vehicles .«queue_places») (take count rows) count (e .kind) (e .time) (e .vehicle) (e .charger) queue places r ⌝ }
 {
     let kind = e.kind;
     match kind {

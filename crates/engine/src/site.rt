@@ -139,19 +139,22 @@ impl Simulation {
     }
 }
 
-// The vehicle balks if the queue has reached its limit.
+// The vehicle balks if the queue has reached its own limit, or if its fleet has filled its places.
 fn balks(v: usize, queue: WaitingQueue, vehicles: VehicleList) -> bool
     requires { ⌜ queue .len ≤ 64 ⌝ }
-    ensures { λ r. ⌜ r ≡ balks (listed vehicles) v (waiting queue) ⌝ }
+    ensures { λ r. ⌜ r ≡ balks (listed vehicles) (vehicles .«queue_places») v (waiting queue) ⌝ }
 {
     let vehicle = vehicles.get_vehicle(v);
-    vehicle.limit <= queue.len
+    if vehicle.limit <= queue.len {
+        return true;
+    }
+    queue.fleet_full(vehicles, vehicle.fleet)
 }
 
 // A vehicle that found no charger balks or waits.
 pub fn turn_away(v: usize, queue: WaitingQueue, vehicles: VehicleList) -> QueueChange
     requires { ⌜ queue .len < 64 ⌝ }
-    ensures { λ r. ⌜ Answers (turned v (waiting queue) (balks (listed vehicles) v (waiting queue))) 1 queue r ⌝ }
+    ensures { λ r. ⌜ Answers (turned v (waiting queue) (balks (listed vehicles) (vehicles .«queue_places») v (waiting queue))) 1 queue r ⌝ }
 {
     if balks(v, queue, vehicles) {
         return QueueChange {

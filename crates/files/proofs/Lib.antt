@@ -1,2 +1,3 @@
 -- Laws of the book that the crates above cite.
+pub mod SessionsIn
 pub mod ReadBack

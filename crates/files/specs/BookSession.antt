@@ -18,7 +18,7 @@ use Rattle.files.specs.declared.book_session.BookSession.{BookSession}
 
 -- ---- which fields a session has, by the number of its outcome; a field that is missing is zero bytes
 
--- outcomes 2 and 3 have no charger: all is missing but ids of vehicle and profile, outcome, arrival, wait, start
+-- outcomes 2 and 3 have no charger: all is missing but ids of vehicle and profile, outcome, fleet, arrival, wait, start
 abbrev pub plugged : ℕ → Bool
 plugged o = leb o 1
 
@@ -60,6 +60,7 @@ entry plan vehicles connectors x =
       «charger_id» = kept (plugged o) (chargerId plan (x .charger));
       connector = kept (plugged o) (codeOf (connectorOf (rowAt connectors (x .charger)) car));
       outcome = o;
+      fleet = car .fleet;
       arrival = car .arrival;
       plugin = kept (plugged o) (x .plugin);
       unplug = kept (charged o) (x .unplug);
@@ -89,6 +90,7 @@ noSession =
       «charger_id» = 0;
       connector = 0;
       outcome = 0;
+      fleet = 0;
       arrival = 0;
       plugin = 0;
       unplug = 0;
@@ -108,6 +110,7 @@ pub record Fits (x : BookSession) : Type 0 where
   pub charger : x .«charger_id» < 2 ^ 32
   pub connector : x .connector < 2 ^ 8
   pub outcome : x .outcome < 2 ^ 8
+  pub fleet : x .fleet < 2 ^ 16
   pub arrival : x .arrival < 2 ^ 64
   pub plugin : x .plugin < 2 ^ 64
   pub unplug : x .unplug < 2 ^ 64

@@ -8,5 +8,6 @@ pub mod Book
 pub mod Totals
 pub mod Call
 pub mod Demand
+pub mod Fleets
 pub mod HotDay
 pub mod Code

@@ -79,6 +79,7 @@ vehicleOf b place =
     record {
       profile = place;
       codes = own .codes;
+      fleet = leAt 2 b 60;
       count = own .count;
       start = f64At b 16;
       target = f64At b 24;
@@ -96,6 +97,10 @@ vehiclesOf plan = each (vehicleIn plan) 0 (vehicleCount plan)
 
 -- ---- the whole plan
 
+-- the queue places of the fleets, that of fleet 1 in the header's byte 24 (request 9)
+unfoldable pub queuePlacesOf : List ℕ → List ℕ
+queuePlacesOf plan = each (λ k. getD plan (24 + k) 0) 0 64
+
 -- byte 12 of the header is 1 with a site limit
 unfoldable pub limitOf : List ℕ → Limit
 limitOf plan = cond (eqb (leAt 1 plan 12) 1) (AtMost (record { 0 = f64At plan 16 })) Unlimited
@@ -110,4 +115,5 @@ readPlan plan =
       chargers = chargersOf plan;
       connectors = connectorRows plan;
       vehicles = vehiclesOf plan;
+      queuePlaces = queuePlacesOf plan;
     }

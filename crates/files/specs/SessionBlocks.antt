@@ -7,11 +7,11 @@ use Rattle.plan.specs.Blocks.{sealed}
 use Rattle.files.specs.declared.book_session.BookSession.{BookSession}
 use Rattle.files.specs.BookSession.{noSession}
 
--- a session's 96 bytes: widths and values, from byte 0 on; bytes 14 and 15 are unnamed
+-- a session's 96 bytes: widths and values, from byte 0 on; the fleet of every outcome at 14 (request 9)
 unfoldable pub sessionBytes : BookSession → List ℕ
 sessionBytes x =
     fields
-    (4 ∷ x .«vehicle_id» ∷ 4 ∷ x .«profile_id» ∷ 4 ∷ x .«charger_id» ∷ 1 ∷ x .connector ∷ 1 ∷ x .outcome ∷ 2 ∷ 0
+    (4 ∷ x .«vehicle_id» ∷ 4 ∷ x .«profile_id» ∷ 4 ∷ x .«charger_id» ∷ 1 ∷ x .connector ∷ 1 ∷ x .outcome ∷ 2 ∷ x .fleet
     ∷ 8 ∷ x .arrival ∷ 8 ∷ x .plugin ∷ 8 ∷ x .unplug ∷ 8 ∷ x .wait
     ∷ 8 ∷ x .duration ∷ 8 ∷ x .idle ∷ 8 ∷ x .peak ∷ 8 ∷ x .energy
     ∷ 8 ∷ x .start ∷ 8 ∷ x .end ∷ [])
@@ -43,6 +43,7 @@ sessionOf b =
       «charger_id» = leAt 4 b 8;
       connector = leAt 1 b 12;
       outcome = leAt 1 b 13;
+      fleet = leAt 2 b 14;
       arrival = leAt 8 b 16;
       plugin = leAt 8 b 24;
       unplug = leAt 8 b 32;

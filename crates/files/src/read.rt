@@ -15,6 +15,7 @@ use curve::units::Volts;
 use engine::site::Site;
 use plan::blocks::block;
 use plan::bytes::u8_at;
+use plan::bytes::u16_at;
 use plan::bytes::u32_at;
 use plan::bytes::u64_at;
 use plan::fields::f64_at;
@@ -37,7 +38,7 @@ ghost use Rattle.engine.specs.Code.Simulation.{batteryAt};
 ghost use Rattle.plan.specs.Search.{each};
 ghost use Rattle.plan.specs.Places.{chargerCount, vehicleCount};
 ghost use Rattle.files.specs.Code.Reading.{Counted, SiteRead};
-ghost use Rattle.files.specs.Read.{pointAt, curveOfProfile, batteryOf, codesAt, capsOf, chargerOf, rowOfCharger, chargersOf, connectorRows, profileIndex, vehicleOf, vehiclesOf, limitOf};
+ghost use Rattle.files.specs.Read.{pointAt, curveOfProfile, batteryOf, codesAt, capsOf, chargerOf, rowOfCharger, chargersOf, connectorRows, profileIndex, vehicleOf, vehiclesOf, queuePlacesOf, limitOf};
 
 // Stores the first n points of a profile's block into rows.
 fn store_points(rows: &mut [[f64; 2]], b: &[u8], n: usize)
@@ -197,6 +198,7 @@ fn read_vehicle(b: &[u8], profile: usize) -> Vehicle
     Vehicle {
         profile,
         codes,
+        fleet: u16_at(b, 60) as u16,
         count: own.count,
         start: f64_at(b, 16),
         target: f64_at(b, 24),
@@ -207,10 +209,24 @@ fn read_vehicle(b: &[u8], profile: usize) -> Vehicle
     }
 }
 
-// The vehicles of the plan.
+// The queue places of the fleets.
+fn read_queue_places(plan: &[u8]) -> [u8; 64]
+    requires { ⌜ 512 ≤ length (now plan) ⌝ }
+    ensures { λ r. ⌜ r ≡ queuePlacesOf (now (plan .entry)) ⌝ }
+{
+    let mut places = [0u8; 64];
+    let mut k = 0;
+    while k < 64 {
+        places[k] = plan[24 + k];
+        k += 1;
+    }
+    places
+}
+
+// The vehicles of the plan, with the queue places of their fleets.
 pub fn read_vehicles(plan: &[u8]) -> VehicleList
     requires { ⌜ Counted (now plan) ⌝ }
-    ensures { λ r. ⌜ (listed r ≡ vehiclesOf (now (plan .entry))) × (r .len ≡ vehicleCount (now (plan .entry))) ⌝ }
+    ensures { λ r. ⌜ ((listed r ≡ vehiclesOf (now (plan .entry))) × (r .len ≡ vehicleCount (now (plan .entry)))) × (r .«queue_places» ≡ queuePlacesOf (now (plan .entry))) ⌝ }
 {
     let start = start_of(plan, Kind::Vehicle);
     let n = vehicle_count(plan);
@@ -222,7 +238,11 @@ pub fn read_vehicles(plan: &[u8]) -> VehicleList
         all[i] = read_vehicle(b, profile_index(plan, u32_at(b, 4)));
         i += 1;
     }
-    VehicleList { all, len: n }
+    VehicleList {
+        all,
+        len: n,
+        queue_places: read_queue_places(plan),
+    }
 }
 
 // The site limit, if there is one.

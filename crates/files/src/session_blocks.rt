@@ -30,7 +30,7 @@ fn put_session(s: &mut [u8], at: usize, x: BookSession)
         1,
         x.outcome as u64,
         2,
-        0,
+        x.fleet as u64,
         8,
         x.arrival,
         8,

@@ -43,6 +43,7 @@ withVehicle x p =
       chargers = p .chargers;
       connectors = p .connectors;
       vehicles = p .vehicles ++ (x ∷ []);
+      queuePlaces = p .queuePlaces;
     }
 
 -- pending events with those of the vehicle x, whose place is v, in the order in which they pop

@@ -31,8 +31,9 @@ abbrev pub limitOk : List ℕ → Bool
 limitOk b =
     eqb (leAt 1 b 12) 1 && inRange (leAt 8 b 16) (ratio 1 8) (ratio 65536 1) || eqb (leAt 1 b 12) 0 && zeros b 16 24
 
+-- the queue places of fleets 1 to 64, one byte each, from 0 to 64 (request 9)
 abbrev pub headerTests : List ℕ → List Bool
-headerTests b = zeros b 10 12 ∷ limitOk b ∷ zeros b 13 16 ∷ zeros b 24 508 ∷ []
+headerTests b = zeros b 10 12 ∷ limitOk b ∷ zeros b 13 16 ∷ bytesIn b 24 88 0 64 ∷ zeros b 88 508 ∷ []
 
 -- ---- profile
 
@@ -82,7 +83,8 @@ chargerTests b =
 
 -- ---- vehicle
 
--- SOC start and target from 0 to 1, idle from 0 to 604,800 s, arrival and longest wait from 0 to 1,000,000 s
+-- SOC start and target from 0 to 1, idle from 0 to 604,800 s, arrival and longest wait from 0 to 1,000,000 s; the fleet, 0 for none,
+-- else from 1 to 64 (request 9)
 abbrev pub vehicleTests : List ℕ → List Bool
 vehicleTests b =
     connectorsOk b 8 16
@@ -91,5 +93,6 @@ vehicleTests b =
     ∷ inRange (leAt 8 b 32) (ratio 0 1) (ratio 604800 1)
     ∷ leb (leAt 8 b 40) 1000000
     ∷ leb (leAt 8 b 48) 1000000
-    ∷ zeros b 60 508
+    ∷ leb (leAt 2 b 60) 64
+    ∷ zeros b 62 508
     ∷ []

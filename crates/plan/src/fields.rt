@@ -71,7 +71,11 @@ pub fn header_ok(b: &[u8]) -> bool
     requires { ⌜ length (now b) ≡ 512 ⌝ }
     ensures { λ r. ⌜ r ≡ holds (headerTests (now (b .entry))) ⌝ }
 {
-    zeros(b, 10, 12) & limit_ok(b) & zeros(b, 13, 16) & zeros(b, 24, 508)
+    zeros(b, 10, 12)
+        & limit_ok(b)
+        & zeros(b, 13, 16)
+        & bytes_in(b, 24, 88, 0, 64)
+        & zeros(b, 88, 508)
 }
 
 // The number of points, of which no more than 30 are read.
@@ -160,5 +164,6 @@ pub fn vehicle_ok(b: &[u8]) -> bool
         & f64_in(b, 32, 0.0, 604800.0)
         & (u64_at(b, 40) <= 1_000_000)
         & (u64_at(b, 48) <= 1_000_000)
-        & zeros(b, 60, 508)
+        & (u16_at(b, 60) <= 64)
+        & zeros(b, 62, 508)
 }

@@ -226,6 +226,12 @@ fn works() -> Vec<Work> {
         call: Call::Run(0, MOST),
         per: Per::Call,
     });
+    works.push(Work {
+        name: "events: 64 vehicles of 4 fleets, 2 chargers".into(),
+        plan: fleets(),
+        call: Call::Run(0, MOST),
+        per: Per::Call,
+    });
     for (name, call) in [("dump after 80 events", Call::Dump(80)), ("continue after 80 events", Call::Continue(80))] {
         works.push(Work { name: format!("{name}: 64 vehicles, 2 chargers"), plan: busy_site(2), call, per: Per::Call });
     }
@@ -376,6 +382,24 @@ fn late_car(plan: &[u8]) -> Block {
     put(&mut car, 40, &1_000_000u64.to_le_bytes());
     seal(&mut car, plan.len() / BLOCK + 1);
     car
+}
+
+/// Cars that all come within minutes and wait for long, of fleets whose places are taken for most of the time.
+fn fleets() -> Vec<u8> {
+    let mut draft = Draft::default();
+    draft.profiles.push(profile(1, 50.0, &sloped()));
+    for id in 1..=2 {
+        draft.chargers.push(charger(id, &[], 150.0, 1_200.0, 400.0));
+    }
+    for (fleet, places) in [(1, 4), (2, 8), (3, 12), (64, 16)] {
+        draft.set_places(fleet, places);
+        for k in 0..16 {
+            let (id, arrival) = (100 * u32::from(fleet) + k, u64::from(k) * 10 + u64::from(fleet));
+            let car = Car { id, fleet, arrival, wait: 50_000, queue_limit: 64, ..Car::default() };
+            draft.vehicles.push(car.block());
+        }
+    }
+    draft.bytes()
 }
 
 fn busy_site(chargers: usize) -> Vec<u8> {

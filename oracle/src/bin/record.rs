@@ -15,6 +15,7 @@ const BUFFER: usize = 65_536;
 /// Cases of each shape whose plans have at most so many blocks.
 const SMALL: (u64, usize) = (14, 12);
 const LARGE: (u64, usize) = (2, MOST_BLOCKS);
+const MOST: u32 = 10_000_000;
 /// Cases of each refusal that the program can give. (Its book is never too short.)
 const REFUSED: u64 = 6;
 const REFUSALS: [u64; 11] = [1, 2, 4, 5, 6, 7, 8, 9, 10, 11, 12];
@@ -70,6 +71,7 @@ fn inputs(seed: u64) -> Vec<Vec<u8>> {
         inputs.extend(drawn(&mut draw, name, extent, |_| true));
     }
     inputs.extend(one_plan_many_ways(&mut draw));
+    inputs.extend(fleets());
     inputs
 }
 
@@ -110,6 +112,21 @@ fn one_plan_many_ways(draw: &mut Draw) -> Vec<Vec<u8>> {
             reseal(&mut plan, block);
             inputs.push(program::input((at % 2) as u8, 1_000, &plan));
         }
+    }
+    inputs
+}
+
+/// A lane of fleets by both engines, cut where its queue grows and shrinks, and with its fields out of limits.
+fn fleets() -> Vec<Vec<u8>> {
+    let lane = bay::lane();
+    let mut inputs = Vec::new();
+    for (engine, cuts) in [(0, [3, 5, 9, 12, MOST]), (1, [11, 41, 62, 102, MOST])] {
+        inputs.extend(cuts.map(|allowance| program::input(engine, allowance, &lane.bytes())));
+    }
+    for (block, at, byte) in [(0, 24, 65), (0, 87, 255), (0, 88, 1), (3, 60, 65), (4, 61, 1), (5, 62, 1)] {
+        let mut wrong = lane.clone();
+        wrong.block_mut(block)[at] = byte;
+        inputs.push(program::input(0, MOST, &wrong.bytes()));
     }
     inputs
 }

@@ -110,9 +110,12 @@ fn lists(record: &mut Record, draw: &mut Draw) {
     }
 }
 
-/// The books of the worked cases; the last is refused as a plan.
+/// The books of the worked cases, of which the last is refused as a plan, and those of a lane of fleets.
 fn runs(record: &mut Record) {
-    for (book, numbers) in bay::worked().iter().map(|input| program::output(input)) {
+    let lane = bay::lane().bytes();
+    let cuts = [(0, 9), (0, 10_000_000), (1, 62), (1, 10_000_000)];
+    let lanes = cuts.map(|(engine, allowance)| program::input(engine, allowance, &lane));
+    for (book, numbers) in bay::worked().iter().chain(&lanes).map(|input| program::output(input)) {
         if numbers[0] == 0 {
             record.add(&book, 0);
         }
@@ -134,6 +137,11 @@ fn faults(record: &mut Record, draw: &mut Draw) {
     }
     for (k, at) in [(1, 32), (5, 48), (1, 71), (5, 79), (2, 8), (3, 24), (2, 39), (3, 55), (2, 63), (3, 95), (0, 14)] {
         record.changed(&book, session(k) + at, &[128], 16);
+    }
+    for k in 0..6 {
+        for (fleet, number) in [(0u16, 0), (64, 0), (65, 16), (256, 16)] {
+            record.changed(&book, session(k) + 14, &fleet.to_le_bytes(), number);
+        }
     }
     for at in [BLOCK + 480, 3 * BLOCK - 5, 2 * BLOCK + 96, 2 * BLOCK + 479] {
         record.byte(&book, at, 1, 16);

@@ -1,6 +1,6 @@
 //! Records the oracle's answers of dump, continue and late booking for a replay without Rust. The README describes the form.
 use oracle::Numbers;
-use oracle::bay::{bay, brief};
+use oracle::bay::{bay, brief, lane};
 use oracle::blocks::{BLOCK, put, reseal, seal, u32_at};
 use oracle::book::LEAST_BOOK;
 use oracle::draft::{Car, Draft, profile};
@@ -30,6 +30,7 @@ fn main() {
     late_drawn(&mut record, &mut Draw::new(seed, 1));
     late_refusals(&mut record);
     late_refusals_in_order(&mut record);
+    fleets(&mut record);
     let input = [&record.cases.to_le_bytes()[..], &record.input].concat();
     assert!(replayed(&input) == record.output, "the record reads back");
     assert!(input.len() < RECORD, "the record fits");
@@ -350,6 +351,29 @@ fn late_refusals_in_order(record: &mut Record) {
     }
     assert_eq!(record.add(Call { engine: 0, book: 0, dump: 0, ..BOOKED }, &[], &[], &[]), 13);
     assert_eq!(record.add(Call { engine: 0, dump: 0, ..BOOKED }, &[], &[], &[]), 4);
+}
+
+/// Cuts of a lane of fleets, each continued, with its dump's sessions in another fleet, and cars of fleets booked late.
+fn fleets(record: &mut Record) {
+    let plan = lane().bytes();
+    for units in [2, 5, 9, 14] {
+        record.cut(&plan, units, &[1, MOST]);
+    }
+    let dump = dumped(&plan, 5);
+    let sessions = length(&dump) - BLOCK;
+    for (at, byte) in [(sessions + 14, 1), (sessions + 15, 1), (sessions + 96 + 14, 2)] {
+        let mut wrong = dump.clone();
+        wrong[at] = byte;
+        reseal(&mut wrong, at / BLOCK);
+        record.changed(&plan, &wrong, 14);
+    }
+    for (fleet, arrival) in [(1, 21), (2, 21), (0, 21), (1, 100), (3, 62), (64, 101)] {
+        record.late(&plan, 3, &Car { fleet, ..late_car(arrival) });
+    }
+    record.cut(&plan, 3, &[]);
+    for fleet in [65, 255, 256, u16::MAX] {
+        record.booked(&plan, &Car { fleet, ..late_car(21) }.behind(&plan), 7);
+    }
 }
 
 /// The record's output, as the replaying program comes to it.

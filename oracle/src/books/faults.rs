@@ -122,13 +122,26 @@ impl Bench<'_> {
             }
             let at = BLOCK + session_at(self.draw.pick(&sessions));
             self.outcomes(book, at, outcome)?;
-            for fleet in [at + 14, at + 15] {
-                self.wrong_byte(book, fleet, "between the fields")?;
-            }
+            self.fleets(book, at)?;
             for (field, bytes) in *missing {
                 let place = at + field + self.draw.below(*bytes) as usize;
                 self.wrong_byte(book, place, "a missing field")?;
             }
+        }
+        Ok(())
+    }
+
+    /// Fleets of the session that stands here.
+    fn fleets(&mut self, book: &[u8], at: usize) -> Found {
+        let some = self.draw.among(65, u64::from(u16::MAX)) as u16;
+        for fleet in [65, 66, 255, 256, 256 + 64, 1 << 14, u16::MAX, some] {
+            self.against_the_rules(book, at + 14, &fleet.to_le_bytes(), format_args!("fleet {fleet}"))?;
+        }
+        for fleet in [0, 1, 63, 64u16] {
+            let mut changed = book.to_vec();
+            put(&mut changed, at + 14, &fleet.to_le_bytes());
+            reseal(&mut changed, at / BLOCK);
+            self.given(&changed, Some(0), format_args!("fleet {fleet}"))?;
         }
         Ok(())
     }
@@ -215,7 +228,8 @@ impl Bench<'_> {
             for _ in 0..self.draw.among(2, 4) {
                 let block = self.block(book);
                 let within = self.draw.pick(&[16, 96, BLOCK as u64]);
-                changed[block * BLOCK + self.draw.below(within) as usize] = self.draw.pick(&[0, 1, 2, 5, 6, 255]);
+                changed[block * BLOCK + self.draw.below(within) as usize] =
+                    self.draw.pick(&[0, 1, 2, 5, 6, 64, 65, 255]);
                 if !self.draw.one_in(4) {
                     reseal(&mut changed, block);
                 }

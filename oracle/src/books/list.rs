@@ -2,6 +2,7 @@
 use crate::blocks::{u16_at, u64_at};
 use crate::book::{self, Entry, book_bytes};
 use crate::draw::Draw;
+use crate::plan::MOST_FLEETS;
 use crate::{Header, Sessions};
 
 const MOST_SESSIONS: usize = 64;
@@ -21,7 +22,7 @@ impl List {
         Self::of_outcomes(draw, &outcomes)
     }
 
-    /// Any bits in every field that a session of its outcome has.
+    /// Any bits in every field that a session of its outcome has; connector and fleet within their limits.
     pub fn of_outcomes(draw: &mut Draw, outcomes: &[u8]) -> Self {
         Self {
             engine: draw.below(2) as u8,
@@ -45,7 +46,9 @@ impl List {
         }
         let list = Self { engine: book[6], ended: book[7] == 1, used: u64_at(book, 8), entries: book::read(book) };
         let code = |entry: &Entry| entry.connector.is_none_or(|code| (1..=5).contains(&code));
-        let known = list.engine <= 1 && list.entries.iter().all(|entry| entry.outcome <= 3 && code(entry));
+        let fleet = |entry: &Entry| entry.fleet <= MOST_FLEETS;
+        let known =
+            list.engine <= 1 && list.entries.iter().all(|entry| entry.outcome <= 3 && code(entry) && fleet(entry));
         (known && list.book() == book).then_some(list)
     }
 
@@ -70,6 +73,7 @@ fn entry(draw: &mut Draw, outcome: u8) -> Entry {
         charger: plugged.then(|| id(draw)),
         connector: plugged.then(|| draw.among(1, 5) as u8),
         outcome,
+        fleet: fleet(draw),
         arrival: whole(draw),
         plugin: plugged.then(|| whole(draw)),
         unplug: charged.then(|| whole(draw)),
@@ -85,6 +89,11 @@ fn entry(draw: &mut Draw, outcome: u8) -> Entry {
 
 fn id(draw: &mut Draw) -> u32 {
     if draw.one_in(2) { draw.pick(&[0, 0, 1, 7, u32::MAX]) } else { draw.number() as u32 }
+}
+
+fn fleet(draw: &mut Draw) -> u16 {
+    let any = draw.below(65) as u16;
+    draw.pick(&[0, 1, 64, any])
 }
 
 fn whole(draw: &mut Draw) -> u64 {

@@ -5,6 +5,7 @@ use crate::blocks::{BLOCK, put, put_f64, reseal, seal_all, u32_at};
 use crate::book::LEAST_BOOK;
 use crate::draft::{Draft, points, set_points};
 use crate::draw::Draw;
+use crate::plan::FLEET;
 
 /// The float fields of a kind of block with their limits.
 const HEADER_FLOATS: &[(usize, f64, f64)] = &[(16, 0.125, 65_536.0)];
@@ -53,6 +54,11 @@ pub fn edges(draw: &mut Draw) -> Case {
         let at = draw.pick(&[40, 48]);
         let time = draw.pick(&[0u64, 1_000_000, 1_000_001, 1 << 32]);
         put(&mut draft.vehicles[vehicle], at, &time.to_le_bytes());
+    }
+    if draw.one_in(3) {
+        let vehicle = draw.below(draft.vehicles.len() as u64) as usize;
+        put(&mut draft.vehicles[vehicle], FLEET, &draw.pick(&[1u16, 63, 64, 65, 256]).to_le_bytes());
+        draft.set_places(draw.pick(&[1, 2, 63, 64]), draw.pick(&[0, 1, 63, 64, 65]));
     }
     let plan = draft.bytes();
     call(draw, plan, Clock::Far)
@@ -135,9 +141,9 @@ fn endless_pair(draw: &mut Draw, draft: &mut Draft, profile: usize, vehicle: usi
     put_f64(block, 24, draw.pick(&[1.0, 1.0, 1.0_f64.next_down()]));
 }
 
-/// One field of one block out of its limits, or a byte that should be zero.
+/// One field of one block out of its limits, or a byte that should be zero; the header's often.
 fn field_fault(draw: &mut Draw, draft: &mut Draft) {
-    let k = draw.below(draft.block_count() as u64) as usize;
+    let k = if draw.one_in(4) { 0 } else { draw.below(draft.block_count() as u64) as usize };
     if !draw.one_in(3)
         && let Some((at, low, high)) = float_field(draw, draft, k)
     {
@@ -171,7 +177,7 @@ fn field_fault(draw: &mut Draw, draft: &mut Draft) {
 }
 
 fn header_fault(draw: &mut Draw, block: &mut [u8]) {
-    match draw.below(4) {
+    match draw.below(5) {
         0 => block[12] = draw.among(2, 255) as u8,
         1 => {
             block[12] = 0;
@@ -181,7 +187,8 @@ fn header_fault(draw: &mut Draw, block: &mut [u8]) {
             block[12] = 1;
             block[16..24].fill(0);
         }
-        _ => block[draw.pick(&[10, 11, 13, 15, 24, 25, 87, 88, 300, 507])] = draw.among(1, 255) as u8,
+        3 => block[draw.pick(&[24, 25, 50, 86, 87])] = draw.pick(&[65, 66, 128, 255]),
+        _ => block[draw.pick(&[10, 11, 13, 15, 88, 89, 300, 507])] = draw.among(1, 255) as u8,
     }
 }
 
@@ -199,7 +206,7 @@ fn profile_fault(draw: &mut Draw, block: &mut [u8]) {
 
 fn connector_fault(draw: &mut Draw, block: &mut [u8], at: usize) {
     let count = usize::from(block[at].min(5));
-    match draw.below(5) {
+    match draw.below(6) {
         0 => block[at] = draw.pick(&[6, 7, 255]),
         1 if count < 5 => block[at] = count as u8 + 1,
         2 if count < 5 => block[at + 1 + count] = draw.among(1, 5) as u8,
@@ -209,7 +216,8 @@ fn connector_fault(draw: &mut Draw, block: &mut [u8], at: usize) {
             let time = draw.pick(&[1_000_001, 1u64 << 32, 1 << 40, u64::MAX]);
             put(block, draw.pick(&[40, 48]), &time.to_le_bytes());
         }
-        _ => block[draw.pick(&[14, 15, 60, 61, 62, 507])] = draw.among(1, 255) as u8,
+        5 => put(block, FLEET, &draw.pick(&[65u16, 66, 128, 255, 256, 257, 1 << 14, u16::MAX]).to_le_bytes()),
+        _ => block[draw.pick(&[14, 15, 62, 63, 507])] = draw.among(1, 255) as u8,
     }
 }
 
@@ -254,7 +262,7 @@ pub fn damaged(draw: &mut Draw) -> Case {
     for _ in 0..draw.among(1, 2) {
         // Mostly the first bytes of a block, where the fields are.
         let block = draw.below(plan.len() as u64 / BLOCK as u64) as usize;
-        let within = if draw.one_in(4) { draw.below(512) } else { draw.below(64) } as usize;
+        let within = if draw.one_in(4) { draw.below(512) } else { draw.below(96) } as usize;
         let at = block * BLOCK + within;
         plan[at] = if draw.one_in(2) { plan[at] ^ (1 << draw.below(8)) } else { draw.number() as u8 };
         if !draw.one_in(5) {

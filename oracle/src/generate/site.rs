@@ -1,12 +1,14 @@
 //! Plans that are good, or refused by 12 at most, in several styles.
-use crate::blocks::{Block, put_f64};
+use crate::blocks::{Block, hash, put, put_f64};
 use crate::draft::{Car, Draft, charger, points, profile};
 use crate::draw::Draw;
-use crate::plan::CAPS;
+use crate::plan::{CAPS, FLEET, MOST_FLEETS};
 
 #[derive(Clone, Copy, PartialEq)]
 pub enum Clock {
     Tight,
+    /// Cars that come close together, most of which wait for long.
+    Close,
     Short,
     Day,
     Far,
@@ -31,6 +33,14 @@ pub enum Idle {
     Long,
 }
 
+#[derive(Clone, Copy, PartialEq)]
+pub enum Fleets {
+    /// Mostly no car in a fleet, so that the original is the reference.
+    Few,
+    /// Most cars in one of a few fleets.
+    Most,
+}
+
 #[derive(Clone, Copy)]
 pub struct Style {
     pub profiles: [u64; 2],
@@ -46,6 +56,7 @@ pub struct Style {
     /// Leads that carry less than their charger, or as much, or more.
     pub caps: bool,
     pub limit: bool,
+    pub fleets: Fleets,
 }
 
 pub const FEW: Style = Style {
@@ -60,6 +71,7 @@ pub const FEW: Style = Style {
     connectors: false,
     caps: false,
     limit: false,
+    fleets: Fleets::Few,
 };
 pub const CONTENTION: Style = Style { profiles: [1, 3], chargers: [1, 3], vehicles: [3, 14], ..FEW };
 pub const TIES: Style =
@@ -69,6 +81,17 @@ pub const NO_LENGTH: Style =
     Style { chargers: [1, 4], vehicles: [3, 14], soc: Soc::Reached, idle: Idle::Mostly0, ..TIES };
 /// Several cars at a site of little power, most of them parked at any time.
 pub const PARKED: Style = Style { chargers: [2, 6], vehicles: [3, 12], idle: Idle::Long, limit: true, ..CONTENTION };
+/// More cars than chargers, in fleets that wait for them; and the same with much in one second.
+pub const FLEETS: Style = Style {
+    chargers: [0, 3],
+    vehicles: [3, 16],
+    clock: Clock::Close,
+    connectors: true,
+    fleets: Fleets::Most,
+    ..CONTENTION
+};
+pub const FLEETS_AT_ONCE: Style = Style { vehicles: [3, 12], fleets: Fleets::Most, ..TIES };
+pub const LARGE_FLEETS: Style = Style { vehicles: [24, 64], connectors: false, ..FLEETS };
 pub const MANY: Style = Style {
     profiles: [1, 16],
     points: [1, 30],
@@ -124,7 +147,42 @@ pub fn draft(draw: &mut Draw, style: Style) -> Draft {
         let curve = points(&draft.profiles[place]);
         draft.vehicles.push(car(draw, style, id, profile_ids[place], &curve).block());
     }
+    // Drawn apart, so that a plan without fleets does not go by them.
+    let mut apart = Draw::new(hash(&draft.bytes()), 0);
+    match style.fleets {
+        Fleets::Most => set_fleets(&mut apart, &mut draft),
+        Fleets::Few if apart.one_in(40) => set_fleets(&mut apart, &mut draft),
+        Fleets::Few if apart.one_in(12) => any_places(&mut apart, &mut draft),
+        Fleets::Few => {}
+    }
     draft
+}
+
+/// Places of some fleets, whether they have cars or not.
+fn any_places(draw: &mut Draw, draft: &mut Draft) {
+    let one_in = draw.pick(&[1, 2, 20]);
+    for fleet in 1..=MOST_FLEETS {
+        if draw.one_in(one_in) {
+            draft.set_places(fleet, draw.below(65) as u8);
+        }
+    }
+}
+
+/// Most cars in one of a few fleets, whose places are none, one, few or many.
+fn set_fleets(draw: &mut Draw, draft: &mut Draft) {
+    if draw.one_in(2) {
+        any_places(draw, draft);
+    }
+    let any = draw.among(1, 64) as u16;
+    let fleets: Vec<u16> = (0..draw.among(1, 4)).map(|_| draw.pick(&[1, 2, 3, 63, 64, any])).collect();
+    for fleet in &fleets {
+        draft.set_places(*fleet, draw.pick(&[0, 1, 1, 1, 2, 2, 3, 5, 64]));
+    }
+    for vehicle in &mut draft.vehicles {
+        if !draw.one_in(5) {
+            put(vehicle, FLEET, &draw.pick(&fleets).to_le_bytes());
+        }
+    }
 }
 
 fn site_limit(draw: &mut Draw) -> f64 {
@@ -262,6 +320,7 @@ fn idle(draw: &mut Draw, style: Style) -> f64 {
 fn times(draw: &mut Draw, clock: Clock) -> [u64; 2] {
     match clock {
         Clock::Tight => [draw.below(7), draw.pick(&[0, 0, 1, 2, 3, 4, 5, 6, 9, 1_000])],
+        Clock::Close => [draw.below(90), draw.pick(&[0, 20, 60, 200, 900, 900, 900, 5_000])],
         Clock::Short => {
             let wait = draw.pick(&[0, 1, 30, 100, 300, 900]);
             [draw.below(400), draw.among(wait / 2, wait)]
@@ -286,6 +345,11 @@ fn car(draw: &mut Draw, style: Style, id: u32, profile: u32, curve: &[(f64, f64)
         idle: idle(draw, style),
         arrival,
         wait,
-        queue_limit: if style.clock == Clock::Tight && !draw.one_in(4) { draw.pick(&[0, 1, 2, 3]) } else { waiting },
+        queue_limit: match style.clock {
+            _ if style.fleets == Fleets::Most => draw.pick(&[0, 1, 2, 3, 5, 10, 10, 64, u32::MAX, u32::MAX]),
+            Clock::Tight if !draw.one_in(4) => draw.pick(&[0, 1, 2, 3]),
+            _ => waiting,
+        },
+        fleet: 0,
     }
 }

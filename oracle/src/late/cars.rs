@@ -5,6 +5,7 @@ use crate::blocks::{Block, f64_at, put, put_f64, seal, u32_at};
 use crate::both::Bench;
 use crate::draft::{Car, Draft};
 use crate::dump::events;
+use crate::plan::FLEET;
 
 impl Bench<'_> {
     /// Cars that arrive before, at and after the last handled event, and in the seconds of pending ones.
@@ -52,7 +53,7 @@ impl Bench<'_> {
         car
     }
 
-    /// One of the vehicles, now and then with other connectors or with nothing to charge.
+    /// One of the vehicles, now and then with other connectors, of another fleet or with nothing to charge.
     fn like_one_of(&mut self, draft: &Draft) -> Block {
         let mut car = self.one_of(draft);
         if self.draw.one_in(4) {
@@ -60,6 +61,9 @@ impl Bench<'_> {
             car[8..14].fill(0);
             car[8] = count as u8;
             car[9..9 + count].fill_with(|| self.draw.among(1, 5) as u8);
+        }
+        if self.draw.one_in(6) {
+            put(&mut car, FLEET, &self.draw.pick(&[0u16, 1, 2, 3, 63, 64]).to_le_bytes());
         }
         if self.draw.one_in(4) {
             let start = f64_at(&car, 16);

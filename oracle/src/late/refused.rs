@@ -4,7 +4,7 @@ use crate::blocks::{BLOCK, Block, CHECK, check_of, put, put_f64, reseal, seal, u
 use crate::both::{Bench, Call, Found};
 use crate::draft::{Draft, profile};
 use crate::dump::{LEAST_DUMP, USED};
-use crate::plan::{MOST_BLOCKS, MOST_PROFILES, MOST_VEHICLES};
+use crate::plan::{FLEET, MOST_BLOCKS, MOST_PROFILES, MOST_VEHICLES};
 
 /// What can be wrong with a booking, in the order in which it is refused.
 #[derive(Debug, Clone, Copy, PartialEq)]
@@ -168,7 +168,7 @@ impl Bench<'_> {
 
     /// A field past its limit, or a byte that is not zero where it must be.
     fn spoil_field(&mut self, car: &mut Block) {
-        match self.draw.below(5) {
+        match self.draw.below(6) {
             0 => car[8] = self.draw.pick(&[6, 255]),
             1 => put(car, 8, &[1, self.draw.pick(&[0, 6, 255])]),
             2 => {
@@ -176,7 +176,8 @@ impl Bench<'_> {
                 put_f64(car, self.draw.pick(&[16, 24, 32]), wrong);
             }
             3 => put(car, self.draw.pick(&[40, 48]), &self.draw.pick(&[1_000_001, 1 << 32, u64::MAX]).to_le_bytes()),
-            _ => car[self.draw.pick(&[14, 15, 60, 61, 62, 300, 507])] = self.draw.among(1, 255) as u8,
+            4 => put(car, FLEET, &self.draw.pick(&[65u16, 128, 256, 257, u16::MAX]).to_le_bytes()),
+            _ => car[self.draw.pick(&[14, 15, 62, 63, 300, 507])] = self.draw.among(1, 255) as u8,
         }
     }
 

@@ -13,9 +13,8 @@ use Rattle.curve.proofs.float.Grid.{lt-or-le}
 use Rattle.charger.proofs.Lists.{and-true}
 use Rattle.plan.specs.Bytes.{leAt, bytes, fields, pieces}
 use Rattle.plan.specs.Blocks.{sealed, passes, block, wholeBlocks}
-use Rattle.plan.specs.Fields.{zeros}
 use Rattle.plan.specs.Search.{every, holds}
-use Rattle.plan.proofs.bytes.Laws.{leAt-lt, leAt-drop}
+use Rattle.plan.proofs.bytes.Laws.{leAt-lt}
 use Rattle.plan.proofs.bytes.Apart.{pieces-apart, fields-apart, pieces-same}
 use Rattle.plan.proofs.blocks.Laws.{whole-blocks, passes-sealed, blocks-of}
 use Rattle.plan.proofs.fields.Laws.{zeros-hold, zeros-part}
@@ -27,13 +26,12 @@ use Rattle.files.specs.declared.book_session.BookSession.{BookSession}
 use Rattle.book_reader.specs.SessionRules.{sessionTests}
 use Rattle.book_reader.specs.Reader.{damaged, headerTests, sessionOk, restOk, againstRules, contentsOf}
 use Rattle.book_reader.specs.Accepted.{ByRules, bytesOf}
-use Rattle.book_reader.proofs.sessions.Laws.{sessionIn, sessions-each, session-count, in-book, past-last}
+use Rattle.files.proofs.SessionsIn.{sessionIn, sessions-each, session-count, in-book, past-last}
 
--- a session's bytes, of which 14 and 15 are zero, are those of the session that is read there
-session-rebuilt : (s : List ℕ) → ((k : ℕ) → getD s k 0 < 256) → 96 ≤ length s → leAt 2 s 14 ≡ 0 → take 96 s ≡ sessionBytes (sessionOf s)
+-- a session's bytes are those of the session that is read there
+session-rebuilt : (s : List ℕ) → ((k : ℕ) → getD s k 0 < 256) → 96 ≤ length s → take 96 s ≡ sessionBytes (sessionOf s)
 unfolding sessionBytes sessionOf
-session-rebuilt s byte h e =
-    sym (fields-apart (4 ∷ 4 ∷ 4 ∷ 1 ∷ 1 ∷ 2 ∷ 8 ∷ 8 ∷ 8 ∷ 8 ∷ 8 ∷ 8 ∷ 8 ∷ 8 ∷ 8 ∷ 8 ∷ []) s 0 byte h) ∙ rw e
+session-rebuilt s byte h = sym (fields-apart (4 ∷ 4 ∷ 4 ∷ 1 ∷ 1 ∷ 2 ∷ 8 ∷ 8 ∷ 8 ∷ 8 ∷ 8 ∷ 8 ∷ 8 ∷ 8 ∷ 8 ∷ 8 ∷ []) s 0 byte h)
 
 pub no-session-bytes : sessionBytes noSession ≡ bytes 96 0
 unfolding sessionBytes noSession fields bytes
@@ -49,6 +47,7 @@ session-fits s byte =
       charger = omega (arith, leAt-lt 4 s 8 byte);
       connector = omega (arith, leAt-lt 1 s 12 byte);
       outcome = omega (arith, leAt-lt 1 s 13 byte);
+      fleet = omega (arith, leAt-lt 2 s 14 byte);
       arrival = omega (arith, leAt-lt 8 s 16 byte);
       plugin = omega (arith, leAt-lt 8 s 24 byte);
       unplug = omega (arith, leAt-lt 8 s 32 byte);
@@ -151,17 +150,15 @@ module _ (b : List ℕ) (byte : (k : ℕ) → getD b k 0 < 256) (intact : damage
   abbrev count : length xs ≡ n
   count = session-count b
 
-  session-test : (k : ℕ) → k < n → (holds (sessionTests (sessionIn b k)) ≡ true) × (zeros b (bookOffset k + 14) (bookOffset k + 16) ≡ true)
+  session-test : (k : ℕ) → k < n → holds (sessionTests (sessionIn b k)) ≡ true
   unfolding sessionOk
-  session-test k h = and-true _ _ (every-at (sessionOk b) 0 n (rules .0 .1) k (omega arith) (omega arith))
+  session-test k h = every-at (sessionOk b) 0 n (rules .0 .1) k (omega arith) (omega arith)
 
   -- a session's place in the book, and a place past the last session
   slot-taken : (k : ℕ) → k < n → take 96 (drop (bookOffset k) b) ≡ slot xs k
   unfolding slot
   slot-taken k h =
-      let e : bookOffset k + 16 ≡ bookOffset k + 14 + 2 = omega arith in
-      let zero-two : leAt 2 (drop (bookOffset k) b) 14 ≡ 0 = leAt-drop 2 (bookOffset k) b 14 ∙ zeros-hold b (bookOffset k + 14) 2 (rw e at (session-test k h .1)) in
-      session-rebuilt (drop (bookOffset k) b) (bytes-behind b (bookOffset k) byte) (simp length-drop (omega (arith, size))) zero-two ∙ rw (in-book b k h)
+      session-rebuilt (drop (bookOffset k) b) (bytes-behind b (bookOffset k) byte) (simp length-drop (omega (arith, size))) ∙ rw (in-book b k h)
 
   slot-empty : (j i : ℕ) → j < m → i < 5 → n ≤ 5 * j + i → take 96 (drop (512 + 512 * j + 96 * i) b) ≡ slot xs (5 * j + i)
   unfolding slot restOk
@@ -207,5 +204,5 @@ module _ (b : List ℕ) (byte : (k : ℕ) → getD b k 0 < 256) (intact : damage
         used = omega (arith, leAt-lt 8 b 8 byte);
         few = omega (arith, count, few b intact (rules .0 .0));
         widths = rw sessions-each (all-each (sessionIn b) 0 n (λ i l h. session-fits (drop (bookOffset i) b) (bytes-behind b (bookOffset i) byte)));
-        fields = rw sessions-each (all-each (sessionIn b) 0 n (λ i l h. session-test i (omega arith) .0));
+        fields = rw sessions-each (all-each (sessionIn b) 0 n (λ i l h. session-test i (omega arith)));
       }

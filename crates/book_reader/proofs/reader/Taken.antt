@@ -12,7 +12,7 @@ use lib.Seq.{drop-nil}
 use Rattle.charger.proofs.Lists.{all-at}
 use Rattle.plan.specs.Bytes.{bytes, fields, pieces}
 use Rattle.plan.specs.Blocks.{sealed, passes, block, wholeBlocks, checkOf}
-use Rattle.plan.specs.Fields.{bytesIn, zeros}
+use Rattle.plan.specs.Fields.{zeros}
 use Rattle.plan.specs.Search.{every, holds}
 use Rattle.plan.proofs.bytes.Laws.{length-pieces, Begins}
 use Rattle.plan.proofs.bytes.Apart.{pieces-add, bytes-add, pieces-zero}
@@ -20,7 +20,7 @@ use Rattle.plan.proofs.blocks.Laws.{blocks-whole}
 use Rattle.plan.proofs.fields.Laws.{zeros-there, zeros-behind}
 use Rattle.plan.proofs.SearchLaws.{every-of}
 use Rattle.files.specs.BookSession.{noSession}
-use Rattle.files.specs.SessionBlocks.{sessionBytes, slot, sessionBlock, sessionBlocks, sessionOf}
+use Rattle.files.specs.SessionBlocks.{slot, sessionBlock, sessionBlocks, sessionOf}
 use Rattle.files.specs.Book.{headerBlock, bookBytes, written, bookOffset, ReadBack}
 use Rattle.files.specs.Code.Writing.{FitBelow}
 use Rattle.files.specs.declared.book_session.BookSession.{BookSession}
@@ -39,10 +39,6 @@ unfolding bookBytes headerBlock sealed fields bytes
 header-zeros engine ended used xs =
     let first : List ℕ = 1 ∷ 66 ∷ 1 ∷ 79 ∷ 1 ∷ 79 ∷ 1 ∷ 75 ∷ 2 ∷ length xs ∷ 1 ∷ engine ∷ 1 ∷ ended ∷ 8 ∷ used ∷ [] in
     zeros-there (fields first) (bytes 4 (checkOf 1 (fields first ++ bytes 492 0)) ++ sessionBlocks 2 xs) 16 492 refl
-
-unused-zeros : (x : BookSession) (r : List ℕ) → zeros (sessionBytes x ++ r) 14 16 ≡ true
-unfolding sessionBytes fields bytes bytesIn every
-unused-zeros x r = refl
 
 module _ (c : Contents) (w : ByRules c) where
   abbrev b : List ℕ
@@ -107,8 +103,7 @@ module _ (c : Contents) (w : ByRules c) where
       let x : BookSession = getD xs k noSession in
       let s = starts k h in
       let read : sessionOf (drop (bookOffset k) b) ≡ x = rw (s .1) (session-back x (s .0) (fit-below k h)) in
-      let unused : zeros b (bookOffset k + 14) (bookOffset k + 16) ≡ true = zeros-behind b (bookOffset k) 14 16 (rw (s .1) (unused-zeros x (s .0))) in
-      rw (read, all-at xs k noSession h (w .fields), unused)
+      rw (read, all-at xs k noSession h (w .fields))
 
   -- ---- what follows the last session of a block
 

@@ -7,6 +7,8 @@ use native.Mathlib.Omega.{arith}
 use borrow.Author.Tests.{lt-ltb, le-ltb, ltb-false}
 use lib.Dec.{ltb}
 use lib.ListN.{length, drop}
+use Rattle.charger.specs.Lists.{tick}
+use Rattle.engine.specs.Discrete.{run}
 use Rattle.engine.specs.Demand.{byEvents}
 use Rattle.plan.specs.Plan.{checkBlocks}
 use Rattle.plan.specs.declared.answer.Answer.{Answer}
@@ -18,15 +20,19 @@ use Rattle.plan.specs.declared.answer.Totals.{Totals}
 use Rattle.files.specs.Read.{readPlan}
 use Rattle.files.specs.Pairs.{failingPair}
 use Rattle.files.specs.Check.{checkPlan, pairAnswer, thenCheck}
-use Rattle.files.specs.Book.{written}
-use Rattle.files.specs.Call.{totals, ifFine, bookAfter}
+use Rattle.files.specs.BookSession.{bookSessions}
+use Rattle.files.specs.SessionBlocks.{slot}
+use Rattle.files.specs.Book.{written, sessionAt, ReadBack}
+use Rattle.files.specs.Call.{totals, ifFine, bookOf, bookAfter}
 use Rattle.files.specs.Demand.{OfRun, ReadsBack}
 use Rattle.files.proofs.check.PairLaws.{plan-fine}
-use Rattle.files.proofs.call.Demanded.{Runs, of-map, of-both, if-fine, unpromised, promised}
-use Rattle.dump.specs.Dump.{dumpOf, handledIn, isDump}
+use Rattle.files.proofs.call.Demanded.{Runs, of-map, of-both, if-fine, unpromised, book-bytes, promised}
+use Rattle.files.proofs.call.BookDemand.{few-sessions, length-said, bytes-at}
+use Rattle.dump.specs.Dump.{dumpBytes, dumpOf, handledIn, isDump, sessionCount as dumpedCount, sessionAt as dumpedAt}
 use Rattle.dump.specs.Call.{dumpAnswer, dumpAfter, continuedAnswer}
-use Rattle.dump.specs.Continued.{Unbroken, FitsBuffer, Determines, BlocksPass, Continues}
-use Rattle.dump.proofs.dump.Runs.{fits-buffer, named, is-own, determined}
+use Rattle.dump.specs.Continued.{Unbroken, FitsBuffer, Determines, BlocksPass, Continues, SessionsOfBook}
+use Rattle.dump.proofs.dump.ReadBack.{session-count, session-read}
+use Rattle.dump.proofs.dump.Runs.{few-events, fits-buffer, named, is-own, determined}
 use Rattle.dump.proofs.dump.Passes.{dump-passes}
 use Rattle.dump.proofs.call.Laws.{of-cond, unbroken, EventPromises, of-events}
 
@@ -38,11 +44,12 @@ DumpPromises plan n old book dump r =
     × (Determines plan n r
     × (BlocksPass plan n dump r
     × (Continues plan n dump r
-    × EventPromises plan n book r))))
+    × (SessionsOfBook plan n dump book r
+    × EventPromises plan n book r)))))
 
 -- nothing is promised of a refused call
 pub undumped : (plan : List ℕ) (n : ℕ) (old book dump : List ℕ) (x : Refusal) → DumpPromises plan n old book dump (Refused x)
-undumped plan n old book dump x = (tt, (tt, (tt, (tt, (tt, of-events [] 0 [] (Refused x) (unpromised x))))))
+undumped plan n old book dump x = (tt, (tt, (tt, (tt, (tt, (tt, of-events [] 0 [] (Refused x) (unpromised x)))))))
 
 module _ (plan : List ℕ) (engine n room space : ℕ) where
   -- a run that was not refused has passed the tests
@@ -117,6 +124,32 @@ module _ (plan : List ℕ) (engine n : ℕ) (r : RunAnswer) (old book blank dump
       rw (le-ltb 10000000 further small, le-ltb left 7168 large, k .fine, own, used))
       r known (dump-bytes plan n blank dump r d)
 
+  -- the bytes of both, and the book read back
+  both-written : OfRun (λ t. ((dump ≡ dumpOf plan n ++ drop (length (dumpOf plan n)) blank) × (book ≡ written (bookOf plan 0 (byEvents (readPlan plan) n)) old))
+      × ReadBack 0 (tick (t .ended)) (t .used) (bookSessions plan (byEvents (readPlan plan) n .sessions)) book) r
+  both-written = of-both (λ t w h. (w, h)) r (of-both (λ t w h. (w, h)) r (dump-bytes plan n blank dump r d) (book-bytes plan 0 n old book r b)) back
+
+  sessions-of-book : SessionsOfBook plan n dump book r
+  unfolding dumpOf bookOf
+  sessions-of-book =
+      of-both
+      (λ t k w.
+      let s = run (readPlan plan) n in
+      let fine = plan-fine plan (k .fine) .0 in
+      let xs = bookSessions plan (s .site .sessions) in
+      let rest = drop (length (dumpBytes plan s)) blank in
+      let events : length (s .site .pending) < 65536 = omega (arith, few-events plan fine n) in
+      let few : length (s .site .sessions) < 65536 = omega (arith, few-sessions plan 0 n fine) in
+      let many : dumpedCount dump ≡ length xs = rw (w .0 .0) (session-count plan s rest events few) ∙ sym (length-said plan (s .site .sessions)) in (
+        many ∙ sym (w .1 .count),
+        λ j h.
+            let inside : j < length xs = omega (arith, h, w .1 .count) in
+            let dumped : dumpedAt dump j ≡ slot xs j = rw (w .0 .0) (session-read plan s rest events j inside) in
+            let booked : sessionAt book j ≡ slot xs j = rw (w .0 .1) (bytes-at 0 _ _ xs old j inside) in
+            dumped ∙ sym booked,
+      ))
+      r known both-written
+
   pub dumped : DumpPromises plan n old book dump r
   dumped = (
     unbroken plan n old book r known room b,
@@ -124,7 +157,7 @@ module _ (plan : List ℕ) (engine n : ℕ) (r : RunAnswer) (old book blank dump
       of-map (λ t k. fits-buffer plan (plan-fine plan (k .fine) .0) n) r known,
       (
         of-map (λ t k m same. determined plan (plan-fine plan (k .fine) .0) n m same) r known,
-        (passes-all, (continues, of-events plan n book r (promised plan 0 n r known old book b back))),
+        (passes-all, (continues, (sessions-of-book, of-events plan n book r (promised plan 0 n r known old book b back)))),
       ),
     ),
   )

@@ -4,23 +4,18 @@ use mathlib.Core.Bool.{true, false}
 use mathlib.Core.List.{List, [], _++_}
 use Prim.Native.Nat.{ℕ, _+_, _≤_, _<_}
 use native.Mathlib.Omega.{arith}
-use lib.ListN.{length, length-map}
+use lib.ListN.{length}
 use Rattle.engine.specs.Discrete.{State, run}
 use Rattle.engine.proofs.Demanded.{by-events, event-demand}
 use Rattle.engine.proofs.discrete.EventLaws.{run-handled}
 use Rattle.plan.specs.Plan.{checkBlocks}
 use Rattle.plan.specs.declared.answer.Answer.the-variants.{Fine}
 use Rattle.plan.proofs.bytes.Laws.{Begins}
-use Rattle.files.specs.Read.{readPlan, vehiclesOf, connectorRows}
-use Rattle.files.specs.BookSession.{entry, bookSessions}
-use Rattle.files.proofs.call.BookDemand.{few-vehicles, few-sessions}
+use Rattle.files.specs.Read.{readPlan}
+use Rattle.files.proofs.call.BookDemand.{few-vehicles, few-sessions, length-said}
 use Rattle.dump.specs.Dump.{dumpBytes, dumpOf, handledIn, isDump}
 use Rattle.dump.proofs.dump.Laws.{length-dump, handled-back}
 use Rattle.dump.proofs.dump.Starts.{starts, starts-with, too-short}
-
-pub length-said : (plan : List ℕ) (n : ℕ) → length (bookSessions plan (run (readPlan plan) n .site .sessions)) ≡ length (run (readPlan plan) n .site .sessions)
-unfolding bookSessions
-length-said plan n = length-map (run (readPlan plan) n .site .sessions) (entry plan (vehiclesOf plan) (connectorRows plan))
 
 -- a dump has its header at least
 at-least : (plan : List ℕ) (n : ℕ) → 512 ≤ length (dumpOf plan n)
@@ -43,7 +38,7 @@ module _ (plan : List ℕ) (fine : checkBlocks plan ≡ Fine) where
   -- it never exceeds 16,384 bytes
   pub fits-buffer : (n : ℕ) → length (dumpOf plan n) ≤ 16384
   unfolding dumpOf
-  fits-buffer n = omega (arith, length-dump plan (at n), few-events n, few-sessions plan 0 n fine, length-said plan n)
+  fits-buffer n = omega (arith, length-dump plan (at n), few-events n, few-sessions plan 0 n fine, length-said plan (at n .site .sessions))
 
   -- what a dump names is what the run has handled
   pub named : (n : ℕ) (rest : List ℕ) → handledIn (dumpOf plan n ++ rest) ≡ at n .handled

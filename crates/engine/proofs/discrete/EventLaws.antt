@@ -72,6 +72,10 @@ module _ (p : Plan) where
   pub no-spot : (n v : ℕ) → length (p .vehicles) ≤ v → spotsIn (eqb v) (run p n .site) ≡ 0
   no-spot n v b = L.no-spot p (events p) lawful (run-moves n) v b
 
+  -- whoever has a session is one of the plan's vehicles
+  pub sessions-in : (n : ℕ) → All (λ x. x .vehicle < length (p .vehicles)) (run p n .site .sessions)
+  sessions-in n = L.sessions-in p (events p) lawful (run-moves n)
+
   pub counts : (n : ℕ)
       → yetToArrive (run p n .site .pending) + length (run p n .site .queue)
       + (sessionsWith 0 (run p n .site .sessions) + sessionsWith 1 (run p n .site .sessions) + sessionsWith 2 (run p n .site .sessions) + sessionsWith 3 (run p n .site .sessions))

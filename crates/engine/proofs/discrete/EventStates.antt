@@ -121,7 +121,7 @@ adds-written Nothing = refl
 adds-written (Books x) = refl
 
 -- ---- what an event does
-module _ (vehicles : List Vehicle) (rows : List (List Bool)) (n : ℕ) (queue : WaitingQueue) (places : List ℕ) where
+module _ (vehicles : List Vehicle) (queuePlaces : List ℕ) (rows : List (List Bool)) (n : ℕ) (queue : WaitingQueue) (places : List ℕ) where
   -- the site's state before the event
   abbrev before : List Event → List Session → SiteState Occupant
   before pending sessions = record { pending = pending; queue = waiting queue; places = occupants (take n places); sessions = sessions }
@@ -145,7 +145,7 @@ module _ (vehicles : List Vehicle) (rows : List (List Bool)) (n : ℕ) (queue : 
   -- an arrival, where the search for a charger stopped at k
   module _ (v : ℕ) (free : List Bool) (x : Vehicle) (k : ℕ) (long : n ≤ length places) (vacant : (i : ℕ) → i < n → getD free i false ≡ eqb (getD places i 0) 0)
       (who : x ≡ vehicleAt vehicles v) (at : k ≡ seek (takes free rows x) (below n)) where
-    module _ (p : Plan) (r : Reads vehicles rows n p) where
+    module _ (p : Plan) (r : Reads vehicles queuePlaces rows n p) where
       free-same : (i : ℕ) → i < length (p .chargers) → getD free i false ≡ freeAt p (events p) (occupants (take n places)) i
       free-same i h = vacant i (omega (arith, r .same-count)) ∙ free-at p places n i (omega (arith, r .same-count)) (omega (arith, r .same-count))
 
@@ -155,7 +155,7 @@ module _ (vehicles : List Vehicle) (rows : List (List Bool)) (n : ℕ) (queue : 
       found-at : k ≡ seek (takes free (p .connectors) x) (below (length (p .chargers)))
       found-at = rw (r .same-connectors, r .same-count) at
 
-    pub charges : k < n → (time c : ℕ) → Effected vehicles rows n Arrival time v c queue places (record { queue = queue; places = places; action = Action.PlugsIn v k })
+    pub charges : k < n → (time c : ℕ) → Effected vehicles queuePlaces rows n Arrival time v c queue places (record { queue = queue; places = places; action = Action.PlugsIn v k })
     charges h time c =
         record {
           there = λ w d e.
@@ -166,8 +166,8 @@ module _ (vehicles : List Vehicle) (rows : List (List Bool)) (n : ℕ) (queue : 
               sym (arrival-charges p (events p) (before es xs) time v c free x k (free-same p r) (planned p r) (found-at p r) (omega (arith, r .same-count)));
         }
 
-    pub turns : n ≤ k → {change : QueueChange} → Answers (turned v (waiting queue) (balks vehicles v (waiting queue))) 1 queue change
-        → (time c : ℕ) → Effected vehicles rows n Arrival time v c queue places (effectOf change places)
+    pub turns : n ≤ k → {change : QueueChange} → Answers (turned v (waiting queue) (balks vehicles queuePlaces v (waiting queue))) 1 queue change
+        → (time c : ℕ) → Effected vehicles queuePlaces rows n Arrival time v c queue places (effectOf change places)
     turns h {change} a time c =
         record {
           there = takes-none (change .written);
@@ -175,12 +175,12 @@ module _ (vehicles : List Vehicle) (rows : List (List Bool)) (n : ℕ) (queue : 
           same = λ p r es xs.
               done-written p time a es xs
               ∙ sym
-              (arrival-turned p (events p) (before es xs) time v c free x k (free-same p r) (planned p r) (found-at p r) (omega (arith, r .same-count)) ∙ rw (r .same-vehicles));
+              (arrival-turned p (events p) (before es xs) time v c free x k (free-same p r) (planned p r) (found-at p r) (omega (arith, r .same-count)) ∙ rw (r .same-vehicles, r .same-places));
         }
 
   -- a renege
   pub reneges : {time v : ℕ} {change : QueueChange} → Answers (withdrawn vehicles time (waiting queue) (first (eqb v) (waiting queue))) 0 queue change
-      → (c : ℕ) → Effected vehicles rows n Renege time v c queue places (effectOf change places)
+      → (c : ℕ) → Effected vehicles queuePlaces rows n Renege time v c queue places (effectOf change places)
   reneges {time} {v} {change} a c =
       record {
         there = takes-none (change .written);
@@ -191,14 +191,14 @@ module _ (vehicles : List Vehicle) (rows : List (List Bool)) (n : ℕ) (queue : 
   -- an unplug, by what was popped off the queue
   module _ (c : ℕ) (q : Popped) (row : List Bool) (rowed : row ≡ rowAt rows c) (t : Taken (first (fitsAt row vehicles) (waiting queue)) queue q)
       (left : List ℕ) (marked : left ≡ set places c 0) where
-    popped-as : (p : Plan) → Reads vehicles rows n p → result q ≡ first (λ w. fits p w c) (waiting queue)
+    popped-as : (p : Plan) → Reads vehicles queuePlaces rows n p → result q ≡ first (λ w. fits p w c) (waiting queue)
     unfolding fits
     popped-as p r = rw (r .same-vehicles, r .same-connectors, ← rowed) (t .found)
 
     freed-places : occupants (take n left) ≡ set (occupants (take n places)) c noCar
     freed-places = rw marked (stands n places c 0)
 
-    pub passes : q .found ≡ true → (time v : ℕ) → Effected vehicles rows n Unplug time v c queue places (record { queue = q .queue; places = left; action = Action.PlugsIn (q .id) c })
+    pub passes : q .found ≡ true → (time v : ℕ) → Effected vehicles queuePlaces rows n Unplug time v c queue places (record { queue = q .queue; places = left; action = Action.PlugsIn (q .id) c })
     passes h time v =
         record {
           there = λ w d e.
@@ -210,7 +210,7 @@ module _ (vehicles : List Vehicle) (rows : List (List Bool)) (n : ℕ) (queue : 
               ∙ sym (release-passes p (events p) (before es xs) time c (q .id) (waiting (q .queue)) (is-found q _ (popped-as p r) h));
         }
 
-    pub frees : q .found ≡ false → (time v : ℕ) → Effected vehicles rows n Unplug time v c queue places (record { queue = queue; places = left; action = Action.Nothing })
+    pub frees : q .found ≡ false → (time v : ℕ) → Effected vehicles queuePlaces rows n Unplug time v c queue places (record { queue = queue; places = left; action = Action.Nothing })
     frees h time v =
         record {
           there = takes-none Nothing;
@@ -243,7 +243,7 @@ module _ (s : Simulation) (e : Event) (first : Code.pending (s .events) ≡ e �
 
   -- a step is the event's action, once it is popped and the queue and the places are as it leaves them
   module _ (p : Plan) (n : ℕ) (len : length (p .chargers) ≡ n) (places : List ℕ) (r : Effect)
-      (does : Effected (p .vehicles) (p .connectors) n (e .kind) (e .time) (e .vehicle) (e .charger) (s .queue) places r) where
+      (does : Effected (p .vehicles) (p .queuePlaces) (p .connectors) n (e .kind) (e .time) (e .vehicle) (e .charger) (s .queue) places r) where
     abbrev left : SiteState Occupant
     left = siteState (requeued (r .queue) (poppedFirst s)) (occupants (take n (r .places)))
 
@@ -251,7 +251,7 @@ module _ (s : Simulation) (e : Event) (first : Code.pending (s .events) ≡ e �
         → record { site = g; handled = h } ≡ step p (model n (record { simulation = s; places = places }))
     unfolding step
     stepped g h same counts =
-        same-model (same ∙ does .same p (record { same-vehicles = refl; same-connectors = refl; same-count = len }) (Code.pending (behindFirst (s .events))) (Code.booked (s .sessions))) counts ∙ rw first
+        same-model (same ∙ does .same p (record { same-vehicles = refl; same-places = refl; same-connectors = refl; same-count = len }) (Code.pending (behindFirst (s .events))) (Code.booked (s .sessions))) counts ∙ rw first
 
     pub plugged : (v c : ℕ) → r .action ≡ Action.PlugsIn v c → (x : Session) → x ≡ chargedSession p (e .time) v c → (g : SiteState Occupant)
         → g .pending ≡ push (unplug (x .unplug) v c) (left .pending) → g .queue ≡ left .queue → g .places ≡ set (left .places) c (car v) → g .sessions ≡ left .sessions ++ (x ∷ [])

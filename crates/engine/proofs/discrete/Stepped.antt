@@ -41,7 +41,7 @@ module _ (p : Plan) where
   module _ (s : State) (e : Event) (es : List Event) (l : s .site .pending ≡ e ∷ es) where
     on-arrival : e .kind ≡ Arrival → {f : Found} → Searched (available p (events p) (s .site) (e .vehicle)) (below (length (p .chargers))) f
         → Stepped s (handled (arrived p (events p) (e .time) (e .vehicle) (withPending es (s .site)) f) s)
-    on-arrival k (missed h) = away (balksAt (p .vehicles) (e .vehicle) (s .site .queue))
+    on-arrival k (missed h) = away (balksAt (p .vehicles) (p .queuePlaces) (e .vehicle) (s .site .queue))
       where
         away : (b : Bool) → Stepped s (handled (turnedAway (e .vehicle) (withPending es (s .site)) b) s)
         away true = balks e es l k

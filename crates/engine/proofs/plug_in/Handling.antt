@@ -168,7 +168,7 @@ module _ (site : Site) (rows : List (List Bool)) (time v k : ℕ) (x : Vehicle) 
       }
 
   pub arrives-turned : {change : QueueChange} {r : Simulation} → site .count ≤ k → v < 64 → RoomFor 1 s
-      → Answers (turned v (waiting (s .queue)) (balks (listed (site .vehicles)) v (waiting (s .queue)))) 1 (s .queue) change → Changed change s r
+      → Answers (turned v (waiting (s .queue)) (balks (listed (site .vehicles)) (site .vehicles .«queue_places») v (waiting (s .queue)))) 1 (s .queue) change → Changed change s r
       → Changes site rows (λ t. handle t (steps t) Arrival time v 0) s r F B F B
   arrives-turned h small f a b =
       record {
@@ -176,7 +176,7 @@ module _ (site : Site) (rows : List (List Bool)) (time v k : ℕ) (x : Vehicle) 
             let t = planOf site rows curves lens in
             changed-site b (bank (site .count) F B) (a .same)
             ∙ sym (arrival-turned t (steps t) (siteState s (bank (site .count) F B)) time v 0 free x k (flagged t few) who (stopped t few refl) (rw few h));
-        fit = fit-changed f a b (small-turned small (f .waits) (balks (listed (site .vehicles)) v (waiting (s .queue))));
+        fit = fit-changed f a b (small-turned small (f .waits) (balks (listed (site .vehicles)) (site .vehicles .«queue_places») v (waiting (s .queue))));
         events = b .events;
       }
 

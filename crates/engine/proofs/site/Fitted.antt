@@ -25,7 +25,7 @@ module _ (p : Plan) {A : Type 0} (g : Engine A) (law : Lawful g) where
   fitted-moved f (charges e es c l k a) s =
       all-append s (also (plugged-in (e .time) (e .vehicle) c (and-true (freeAt p g (f .places) c) (fits p (e .vehicle) c) a .1)) none)
   fitted-moved f (balks e es l k) s = all-append s (also (λ o. absurd (false≢true o)) none)
-  fitted-moved f (waits e es l k a) s = s
+  fitted-moved f (waits e es l k a b) s = s
   fitted-moved f (reneges e es q v r w l k x) s = all-append s (also (λ o. absurd (false≢true o)) none)
   fitted-moved f (misses e es l k) s = s
   fitted-moved f (unplugs e es l k) s = s

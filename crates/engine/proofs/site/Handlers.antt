@@ -39,7 +39,7 @@ module _ (p : Plan) {A : Type 0} (g : Engine A) where
     arrival-charges h =
         rw (chargers-found, length-below (length (p .chargers)), lt-ltb k (length (p .chargers)) h, place-at (length (p .chargers)) k h)
 
-    pub arrival-turned : length (p .chargers) ≤ k → handle p g Arrival time v c f ≡ turnedAway v f (balks (p .vehicles) v (f .queue))
+    pub arrival-turned : length (p .chargers) ≤ k → handle p g Arrival time v c f ≡ turnedAway v f (balks (p .vehicles) (p .queuePlaces) v (f .queue))
     arrival-turned h = rw (chargers-found, length-below (length (p .chargers)), le-ltb k (length (p .chargers)) h)
 
   -- ---- a freed charger, by what was popped off the queue

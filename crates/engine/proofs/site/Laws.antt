@@ -12,7 +12,7 @@ use lib.Dec.{eqb}
 use lib.ListN.{length, set, length-set, length-replicate}
 use lib.Seq.{set-set}
 use Rattle.charger.specs.Lists.{tick, count, All, none, also}
-use Rattle.charger.proofs.Lists.{count-append, all-append, all-map, all-both, all-around, all-left, all-right, all-head, by-cond}
+use Rattle.charger.proofs.Lists.{count-append, all-append, all-map, all-both, all-around, all-left, all-right, all-head, all-placed, by-cond}
 use Rattle.charger.specs.declared.vehicle.Vehicle.{Vehicle}
 use Rattle.engine.specs.declared.events.Event.{Event}
 use Rattle.engine.specs.declared.events.EventType.{EventType}
@@ -144,7 +144,7 @@ module _ (p : Plan) {A : Type 0} (g : Engine A) where
     spots-moved test f (charges e es c l k a) =
         simp (count-append, law .vehicle, law .arrivals) (omega (arith, gone test f e es Arrival l k))
     spots-moved test f (balks e es l k) = simp count-append (omega (arith, gone test f e es Arrival l k))
-    spots-moved test f (waits e es l k a) = simp count-append (omega (arith, gone test f e es Arrival l k))
+    spots-moved test f (waits e es l k a b) = simp count-append (omega (arith, gone test f e es Arrival l k))
     spots-moved test f (reneges e es q v r w l k x) =
         simp count-append (omega (arith, gone test f e es Renege l k, ap (count test) x, count-append test q (v ∷ r)))
     spots-moved test f (misses e es l k) = omega (arith, gone test f e es Renege l k)
@@ -171,6 +171,12 @@ module _ (p : Plan) {A : Type 0} (g : Engine A) where
     pub no-spot : {h : SiteState A} → Moves p g (initial p g) h → (v : ℕ) → length (p .vehicles) ≤ v → spotsIn (eqb v) h ≡ 0
     no-spot m v b = spots-run (eqb v) m ∙ none-below v (length (p .vehicles)) b
 
+    pub queue-in : {h : SiteState A} → Moves p g (initial p g) h → All (λ v. v < length (p .vehicles)) (h .queue)
+    queue-in {h} m = all-placed (λ v. v) (length (p .vehicles)) (h .queue) (λ v b. omega (arith, no-spot m v b))
+
+    pub sessions-in : {h : SiteState A} → Moves p g (initial p g) h → All (λ x. x .vehicle < length (p .vehicles)) (h .sessions)
+    sessions-in {h} m = all-placed (λ x. x .vehicle) (length (p .vehicles)) (h .sessions) (λ v b. omega (arith, no-spot m v b))
+
     pub counts : {h : SiteState A} → Moves p g (initial p g) h
         → yetToArrive (h .pending) + length (h .queue) + (sessionsWith 0 (h .sessions) + sessionsWith 1 (h .sessions) + sessionsWith 2 (h .sessions) + sessionsWith 3 (h .sessions)) ≡ length (p .vehicles)
     counts {h} m = omega (arith, spots-run anyone m, count-below (length (p .vehicles)), count-all (h .queue), outcomes (h .sessions))
@@ -179,7 +185,7 @@ module _ (p : Plan) {A : Type 0} (g : Engine A) where
     unfolding startCharging Settled
     settled-moved f (charges e es c l k a) t = all-map (λ v s i b o. s i b (still-free (f .places) c i _ (law .occupied _ _ _ _) o)) t
     settled-moved f (balks e es l k) t = t
-    settled-moved f (waits e es l k a) t = all-append t (also (λ c b o. no-fit (rw o at (all-below (length (p .chargers)) a c b))) none)
+    settled-moved f (waits e es l k a b) t = all-append t (also (λ c d o. no-fit (rw o at (all-below (length (p .chargers)) a c d))) none)
     settled-moved f (reneges e es q v r w l k x) t = all-around q v r (rw x at t)
     settled-moved f (misses e es l k) t = t
     settled-moved f (unplugs e es l k) t = t
@@ -200,7 +206,7 @@ module _ (p : Plan) {A : Type 0} (g : Engine A) where
   unfolding startCharging
   length-moved f (charges e es c l k a) = length-set (f .places) c _
   length-moved f (balks e es l k) = refl
-  length-moved f (waits e es l k a) = refl
+  length-moved f (waits e es l k a b) = refl
   length-moved f (reneges e es q v r w l k x) = refl
   length-moved f (misses e es l k) = refl
   length-moved f (unplugs e es l k) = refl
@@ -218,7 +224,7 @@ module _ (p : Plan) {A : Type 0} (g : Engine A) where
   unfolding startCharging
   kept-moved f (charges e es c l k a) = kept-append (f .sessions) _
   kept-moved f (balks e es l k) = kept-append (f .sessions) _
-  kept-moved f (waits e es l k a) = kept-refl (f .sessions)
+  kept-moved f (waits e es l k a b) = kept-refl (f .sessions)
   kept-moved f (reneges e es q v r w l k x) = kept-append (f .sessions) _
   kept-moved f (misses e es l k) = kept-refl (f .sessions)
   kept-moved f (unplugs e es l k) = kept-refl (f .sessions)

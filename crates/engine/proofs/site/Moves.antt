@@ -38,7 +38,7 @@ module _ (p : Plan) {A : Type 0} (g : Engine A) where
     balks : (e : Event) (es : List Event) → f .pending ≡ e ∷ es → e .kind ≡ Arrival
         → Moved f (withSession (uncharged (e .vehicle) Balked 0) (withPending es f))
     waits : (e : Event) (es : List Event) → f .pending ≡ e ∷ es → e .kind ≡ Arrival
-        → All (λ c. available p g f (e .vehicle) c ≡ false) (below (length (p .chargers)))
+        → All (λ c. available p g f (e .vehicle) c ≡ false) (below (length (p .chargers))) → balksAt (p .vehicles) (p .queuePlaces) (e .vehicle) (f .queue) ≡ false
         → Moved f (withQueue (f .queue ++ (e .vehicle ∷ [])) (withPending es f))
     reneges : (e : Event) (es : List Event) (q : List ℕ) (v : ℕ) (r : List ℕ) (waited : ℕ) → f .pending ≡ e ∷ es → e .kind ≡ Renege → f .queue ≡ q ++ (v ∷ r)
         → Moved f (withSession (uncharged v Reneged waited) (withQueue (q ++ r) (withPending es f)))
@@ -68,11 +68,11 @@ module _ (p : Plan) {A : Type 0} (g : Engine A) where
   module _ (f : SiteState A) (e : Event) (es : List Event) (l : f .pending ≡ e ∷ es) where
     on-arrival : e .kind ≡ Arrival → {x : Found} → Searched (available p g f (e .vehicle)) (below (length (p .chargers))) x
         → Moved f (arrived p g (e .time) (e .vehicle) (withPending es f) x)
-    on-arrival k (missed h) = away (balksAt (p .vehicles) (e .vehicle) (f .queue))
+    on-arrival k (missed h) = away (balksAt (p .vehicles) (p .queuePlaces) (e .vehicle) (f .queue)) refl
       where
-        away : (b : Bool) → Moved f (turnedAway (e .vehicle) (withPending es f) b)
-        away true = balks e es l k
-        away false = waits e es l k h
+        away : (b : Bool) → balksAt (p .vehicles) (p .queuePlaces) (e .vehicle) (f .queue) ≡ b → Moved f (turnedAway (e .vehicle) (withPending es f) b)
+        away true t = balks e es l k
+        away false t = waits e es l k h t
     on-arrival k (met q c r h a x) = charges e es c l k a
 
     on-renege : e .kind ≡ Renege → {x : Found} → Searched (eqb (e .vehicle)) (f .queue) x → Moved f (reneged p g (e .time) (withPending es f) x)

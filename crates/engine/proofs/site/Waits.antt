@@ -157,7 +157,7 @@ module _ (p : Plan) (now : ℕ) where
       away t false = record { dated = rest .dated; queued = all-append (k .queued) (also (omega arith) none); waited = k .waited }
 
       arrives : e .time ≡ vehicle p (e .vehicle) .arrival → (x : Found) → KeptBy p now (arrived p (steps p) (e .time) (e .vehicle) (withPending es f) x)
-      arrives t nobody = away t (balksAt (p .vehicles) (e .vehicle) (f .queue))
+      arrives t nobody = away t (balksAt (p .vehicles) (p .queuePlaces) (e .vehicle) (f .queue))
       arrives t (found c r) = record { dated = rest .dated; queued = k .queued; waited = all-append (k .waited) (also (exact (e .time) _ (omega arith)) none) }
 
       leaves : e .kind ≡ Renege → {x : Found} → Searched (eqb (e .vehicle)) (f .queue) x → KeptBy p now (reneged p (steps p) (e .time) (withPending es f) x)

@@ -312,7 +312,7 @@ module _ (p : Plan) where
 
       arrives : {x : Found} → Searched (available p (steps p) (withPending es f) (e .vehicle)) (below (length (p .chargers))) x
           → Known (arrived p (steps p) (e .time) (e .vehicle) (withPending es f) x)
-      arrives (missed n) = away (balksAt (p .vehicles) (e .vehicle) (f .queue))
+      arrives (missed n) = away (balksAt (p .vehicles) (p .queuePlaces) (e .vehicle) (f .queue))
       arrives (met q c r n a x) =
           let free = free-there (f .places) c (and-left (freeAt p (steps p) (f .places) c) (fits p (e .vehicle) c) a) in
           known-start (e .time) (e .vehicle) c (withPending es f) (free .0) (free .1) k

@@ -42,7 +42,7 @@ module _ (t : Plan) where
       away false = refl
 
       go : (x : Found) → arrived t (steps t) now v f x .pending ≡ f .pending
-      go nobody = away (balks (t .vehicles) v (f .queue))
+      go nobody = away (balks (t .vehicles) (t .queuePlaces) v (f .queue))
       go (found w rest) = refl
   pending-popped Renege now v c f = go (first (eqb v) (f .queue))
     where
@@ -64,7 +64,7 @@ module _ (t : Plan) where
       away false = h
 
       go : (x : Found) → HeldBut [] (arrived t (steps t) now v f x)
-      go nobody = away (balks (t .vehicles) v (f .queue))
+      go nobody = away (balks (t .vehicles) (t .queuePlaces) v (f .queue))
       go (found w rest) = held-start t now v w [] f h
   held-popped Renege now v c f h = go (first (eqb v) (f .queue))
     where

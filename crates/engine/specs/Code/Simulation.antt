@@ -71,6 +71,7 @@ planOf site rows curves lens =
       chargers = take (site .count) (site .chargers);
       connectors = take (site .count) rows;
       vehicles = listed (site .vehicles);
+      queuePlaces = site .vehicles .«queue_places»;
     }
 
 -- the charger is free and fits the vehicle
@@ -173,17 +174,18 @@ done p time Action.Nothing f = f
 done p time (Action.PlugsIn v c) f = startCharging p (Discrete.events p) time v c f
 done p time (Action.Books x) f = withSession x f
 
--- the plan's vehicles, and the connectors of its n chargers, are those that the event engine was given
-pub record Reads (vehicles : List Vehicle) (rows : List (List Bool)) (n : ℕ) (p : Plan) : Type 0 where
+-- the plan's vehicles with their fleets' places, and the connectors of its n chargers, are those that the event engine was given
+pub record Reads (vehicles : List Vehicle) (queuePlaces : List ℕ) (rows : List (List Bool)) (n : ℕ) (p : Plan) : Type 0 where
   pub same-vehicles : p .vehicles ≡ vehicles
+  pub same-places : p .queuePlaces ≡ queuePlaces
   pub same-connectors : p .connectors ≡ rows
   pub same-count : length (p .chargers) ≡ n
 
 -- an event, popped off the queue at a site of `n` chargers, does `r`; who plugs in is one of the plan's vehicles
-pub record Effected (vehicles : List Vehicle) (rows : List (List Bool)) (n : ℕ) (kind : EventType) (time v c : ℕ) (queue : WaitingQueue) (places : List ℕ) (r : Effect) : Type 0 where
+pub record Effected (vehicles : List Vehicle) (queuePlaces : List ℕ) (rows : List (List Bool)) (n : ℕ) (kind : EventType) (time v c : ℕ) (queue : WaitingQueue) (places : List ℕ) (r : Effect) : Type 0 where
   pub there : (w d : ℕ) → r .action ≡ Action.PlugsIn w d → w < length vehicles
   pub room : adds (r .action) + r .queue .len ≤ queue .len + tick (isArrival kind)
-  pub same : (p : Plan) → Reads vehicles rows n p → (pending : List Event) (sessions : List Session)
+  pub same : (p : Plan) → Reads vehicles queuePlaces rows n p → (pending : List Event) (sessions : List Session)
       → done p time (r .action) (record { pending = pending; queue = waiting (r .queue); places = occupants (take n (r .places)); sessions = sessions })
       ≡ handle p (Discrete.events p) kind time v c (record { pending = pending; queue = waiting queue; places = occupants (take n places); sessions = sessions })
 

@@ -90,7 +90,7 @@ module _ (plan : List ℕ) (fine : checkBlocks plan ≡ Fine) where
       eqb-false (idAt plan (from + v)) (idAt plan k) other (sym (id-of v (omega arith)) ∙ e ∙ id-of w l)
 
   -- so ids tell vehicles apart as their places do
-  same-id : (v w : ℕ) → v < vehicleCount plan → w < vehicleCount plan → eqb (vehicleNumber plan v 0) (vehicleNumber plan w 0) ≡ eqb v w
+  pub same-id : (v w : ℕ) → v < vehicleCount plan → w < vehicleCount plan → eqb (vehicleNumber plan v 0) (vehicleNumber plan w 0) ≡ eqb v w
   same-id v w h l = go (eqb v w) refl
     where
       go : (t : Bool) → eqb v w ≡ t → eqb (vehicleNumber plan v 0) (vehicleNumber plan w 0) ≡ t
@@ -171,7 +171,7 @@ closed-number Reneged h = refl
 closed-number Balked h = refl
 
 -- the bytes of a session in a book
-bytes-at : (engine ended used : ℕ) (xs : List BookSession) (buffer : List ℕ) (k : ℕ) → k < length xs
+pub bytes-at : (engine ended used : ℕ) (xs : List BookSession) (buffer : List ℕ) (k : ℕ) → k < length xs
     → sessionAt (written (bookBytes engine ended used xs) buffer) k ≡ slot xs k
 unfolding written Begins
 bytes-at engine ended used xs buffer k h =
@@ -179,14 +179,14 @@ bytes-at engine ended used xs buffer k h =
     rw (s .1, take-at (slot xs k) (s .0) 96 (length-slot xs k))
 
 -- what the book says of the session at an index
-said-at : (plan : List ℕ) (xs : List Session) (k : ℕ) (d : Session) → k < length xs
+pub said-at : (plan : List ℕ) (xs : List Session) (k : ℕ) (d : Session) → k < length xs
     → getD (bookSessions plan xs) k noSession ≡ entry plan (vehiclesOf plan) (connectorRows plan) (getD xs k d)
 unfolding bookSessions
 said-at plan xs k d h =
     let f = entry plan (vehiclesOf plan) (connectorRows plan) in
     getD-any (map f xs) k noSession (f d) (omega (arith, length-map xs f)) ∙ List·getD-map f xs k d
 
-length-said : (plan : List ℕ) (xs : List Session) → length (bookSessions plan xs) ≡ length xs
+pub length-said : (plan : List ℕ) (xs : List Session) → length (bookSessions plan xs) ≡ length xs
 unfolding bookSessions
 length-said plan xs = length-map xs (entry plan (vehiclesOf plan) (connectorRows plan))
 

@@ -1,4 +1,4 @@
--- Demands 2 and 3 and request 13 hold of what every run answers, and of the book that it leaves.
+-- Demands 2 and 3 and requests 13 and 9 hold of what every run answers, and of the book that it leaves.
 use mathlib.Core.Path.{_≡_, refl, sym, ap, _∙_, subst}
 use mathlib.Core.Bool.{Bool, true, false, cond}
 use mathlib.Core.List.{List, []}
@@ -17,6 +17,7 @@ use Rattle.files.specs.Book.{written, sessionCount, outcomeAt, sessionAt
 use Rattle.files.specs.Call.{stopOf, totals, ifFine, answerOf, bookOf, bookAfter}
 use Rattle.files.specs.Demand.{OfRun, ReadsBack, UnitsUsed, FreeKnown, NoFreeFits, OneSpot, OneById, AddUp, CountsOfBook, ClosedStay, ExactWaits, Handled, EventsEnd, StepsEnd}
 use Rattle.files.specs.HotDay.{HotDayOfRun, BookByRating}
+use Rattle.files.specs.Fleets.{FleetsWithin, FleetsCarried, AsBefore}
 use Rattle.files.specs.BookSession.{bookSessions}
 use Rattle.plan.specs.declared.answer.Answer.{Answer}
 use Rattle.plan.specs.declared.answer.Answer.the-variants.{Fine, Refused}
@@ -27,6 +28,7 @@ use Rattle.plan.specs.declared.answer.Refusal.the-variants.{EngineAbove, Allowa
 use Rattle.plan.specs.declared.answer.RunAnswer.the-variants.{Refused as RunRefused, Stopped}
 use Rattle.files.proofs.check.PairLaws.{plan-fine}
 use Rattle.files.proofs.call.HotDay.{hot-day-of-plan, book-by-rating}
+use Rattle.files.proofs.call.Fleets.{fleets-within, fleets-carried, no-fleets}
 use Rattle.files.proofs.call.BookDemand.{vehicle-count, outcomes-of-run, one-by-id, few-sessions, closed-stays}
 
 -- ---- what is known of a run that was not refused
@@ -117,11 +119,14 @@ Promises plan engine n book r =
     × (EventsEnd plan engine n r
     × (StepsEnd plan engine n r
     × (HotDayOfRun plan r
-    × BookByRating plan engine book r)))))))))))))
+    × (BookByRating plan engine book r
+    × (FleetsWithin plan engine n r
+    × (FleetsCarried plan book r
+    × AsBefore plan r))))))))))))))))
 
 -- nothing is promised of a refused call
 pub unpromised : (x : Refusal) → Promises [] 0 0 [] (RunRefused x)
-unpromised x = (tt, (tt, (tt, (tt, (tt, (tt, (tt, (tt, (tt, (tt, (tt, (tt, (tt, (tt, tt))))))))))))))
+unpromised x = (tt, (tt, (tt, (tt, (tt, (tt, (tt, (tt, (tt, (tt, (tt, (tt, (tt, (tt, (tt, (tt, (tt, tt)))))))))))))))))
 
 -- the bytes of the book
 pub book-bytes : (plan : List ℕ) (engine n : ℕ) (old book : List ℕ) (r : RunAnswer) → book ≡ bookAfter plan engine n r old
@@ -174,6 +179,12 @@ module _ (plan : List ℕ) (engine n : ℕ) (r : RunAnswer) (runs : OfRun (Runs 
   hot-day : HotDayOfRun plan r
   hot-day = of-map (λ t k. hot-day-of-plan plan (k .fine)) r runs
 
+  within : FleetsWithin plan engine n r
+  within = of-map (λ t k. fleets-within plan engine n) r runs
+
+  no-fleet : AsBefore plan r
+  no-fleet = of-map (λ t k. no-fleets plan) r runs
+
   -- ---- and those of the book
 
   module _ (old book : List ℕ) (b : book ≡ bookAfter plan engine n r old) (back : ReadsBack plan engine n book r) where
@@ -219,6 +230,9 @@ module _ (plan : List ℕ) (engine n : ℕ) (r : RunAnswer) (runs : OfRun (Runs 
     book-rated : BookByRating plan engine book r
     book-rated = of-map (λ t h z. book-by-rating plan n _ (h .sessions ∙ ap (λ (e : ℕ). bookSessions plan (stopOf (readPlan plan) e n .sessions)) z)) r back
 
+    carried : FleetsCarried plan book r
+    carried = of-both (λ t k h. fleets-carried plan (plan-fine plan (k .fine) .0) engine n book (h .count) (h .sessions)) r runs back
+
     pub promised : Promises plan engine n book r
     promised =
-        (back, (units-used, (free-known, (no-free-fits, (one-spot, (one-id, (add-up, (counts-of-book, (closed-stay, (exact-waits, (handled, (events-end, (steps-end, (hot-day, book-rated))))))))))))))
+        (back, (units-used, (free-known, (no-free-fits, (one-spot, (one-id, (add-up, (counts-of-book, (closed-stay, (exact-waits, (handled, (events-end, (steps-end, (hot-day, (book-rated, (within, (carried, no-fleet)))))))))))))))))

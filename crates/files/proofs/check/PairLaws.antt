@@ -87,6 +87,7 @@ site-read plan site rows curves lens s r h = λ i. record {
   chargers = s .chargers i;
   connectors = (ap (λ (n : ℕ). take n rows) (s .chargerCount) ∙ r) i;
   vehicles = s .vehicles i;
+  queuePlaces = s .queuePlaces i;
 }
 
 pub pair-places : (plan : List ℕ) (v c : ℕ) → Counted plan → failingPair (readPlan plan) ≡ Pair v c → (v < 64) × (c < 32)

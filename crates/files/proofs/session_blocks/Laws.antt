@@ -77,6 +77,7 @@ session-back x r h = λ i. record {
   «charger_id» = read-back 4 (x .«charger_id») (omega (arith, h .charger)) i;
   connector = read-back 1 (x .connector) (omega (arith, h .connector)) i;
   outcome = read-back 1 (x .outcome) (omega (arith, h .outcome)) i;
+  fleet = read-back 2 (x .fleet) (omega (arith, h .fleet)) i;
   arrival = read-back 8 (x .arrival) (omega (arith, h .arrival)) i;
   plugin = read-back 8 (x .plugin) (omega (arith, h .plugin)) i;
   unplug = read-back 8 (x .unplug) (omega (arith, h .unplug)) i;

@@ -8,7 +8,7 @@ use Rattle.charger.specs.Code.Vehicles.{listed}
 use Rattle.engine.specs.Code.Simulation.{batteryAt}
 use Rattle.engine.specs.declared.site.Site.{Site}
 use Rattle.plan.specs.Plan.{checkBlocks}
-use Rattle.files.specs.Read.{curveOfProfile, batteryOf, chargersOf, connectorRows, vehiclesOf, limitOf}
+use Rattle.files.specs.Read.{curveOfProfile, batteryOf, chargersOf, connectorRows, vehiclesOf, queuePlacesOf, limitOf}
 use Rattle.plan.specs.declared.answer.Answer.the-variants.{Fine}
 use Rattle.files.specs.Totals.{counted}
 use lib.Ieee.{Float}
@@ -26,6 +26,7 @@ pub record Counted (plan : List ℕ) : Type 0 where
 pub record SiteRead (plan : List ℕ) (site : Site) : Type 0 where
   pub vehicles : listed (site .vehicles) ≡ vehiclesOf plan
   pub vehicleCount : site .vehicles .len ≡ vehicleCount plan
+  pub queuePlaces : site .vehicles .«queue_places» ≡ queuePlacesOf plan
   pub chargers : take (site .count) (site .chargers) ≡ chargersOf plan
   pub chargerCount : site .count ≡ chargerCount plan
   pub batteries : (k : ℕ) → batteryAt (site .batteries) k ≡ batteryOf plan k

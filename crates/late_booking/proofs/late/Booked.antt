@@ -4,21 +4,20 @@ use mathlib.Core.Bool.{Bool, true, false, cond, not}
 use mathlib.Core.List.{List, [], _∷_, _++_, map}
 use Prim.Native.Nat.{ℕ, _+_, _≤_, _<_}
 use native.Mathlib.Omega.{arith}
-use borrow.Author.Tests.{lt-ltb, le-ltb, ltb-false, ltb-true, eq-eqb, ne-eqb, eqb-true, not-false}
+use borrow.Author.Tests.{lt-ltb, le-ltb, eq-eqb, ne-eqb, eqb-true, not-false}
 use lib.Dec.{ltb, leb, eqb}
 use lib.ListN.{length, take, drop}
 use Rattle.charger.specs.declared.vehicle.Vehicle.{Vehicle}
-use Rattle.charger.specs.Lists.{tick, count, All, none, also}
+use Rattle.charger.specs.Lists.{count}
 use Rattle.engine.specs.declared.events.Event.{Event}
-use Rattle.engine.specs.declared.session.Session.{Session}
 use Rattle.engine.specs.Plan.{Plan}
 use Rattle.engine.specs.Events.{arrival, renege, before, push}
 use Rattle.engine.specs.SiteState.{isEmpty}
 use Rattle.engine.specs.Discrete.{State, run}
-use Rattle.engine.specs.Demand.{arrives, anyone, has, stopAt}
+use Rattle.engine.specs.Demand.{arrives, anyone, stopAt}
 use Rattle.engine.proofs.events.Before.{arrival-first}
 use Rattle.engine.proofs.site.Laws.{count-push}
-use Rattle.engine.proofs.discrete.EventLaws.{no-spot}
+use Rattle.engine.proofs.discrete.EventLaws.{sessions-in}
 use Rattle.engine.proofs.discrete.InOrder.{ordered}
 use Rattle.plan.specs.Plan.{checkBlocks}
 use Rattle.plan.specs.Places.{vehicleCount}
@@ -37,12 +36,12 @@ use Rattle.files.specs.Call.{totals}
 use Rattle.files.specs.Code.Reading.{Counted}
 use Rattle.files.proofs.check.PairLaws.{plan-fine}
 use Rattle.files.proofs.call.RunLaws.{as-counted}
-use Rattle.files.proofs.call.BookDemand.{vehicle-count, few-sessions}
+use Rattle.files.proofs.call.BookDemand.{vehicle-count, few-sessions, length-said}
 use Rattle.dump.specs.EventBlocks.{eventBytes}
 use Rattle.dump.specs.Dump.{dumpBytes, dumpOf, handledIn, isDump, eventsIn, sessionCount, sessionAt}
 use Rattle.dump.specs.Call.{continuedAnswer}
 use Rattle.dump.proofs.dump.Starts.{starts}
-use Rattle.dump.proofs.dump.Runs.{few-events, fits-buffer, length-said, named, is-own, reached}
+use Rattle.dump.proofs.dump.Runs.{few-events, fits-buffer, named, is-own, reached}
 use Rattle.dump.proofs.dump.Passes.{dump-passes}
 use Rattle.dump.proofs.dump.ReadBack.{events-read, session-count, session-read, before-events, behind-events}
 use Rattle.late_booking.specs.LongerPlan.{longer}
@@ -130,19 +129,6 @@ module _ (plan dump car : List ℕ) (space : ℕ) where
         → lateAnswer plan dump car space ≡ thenCheck (thenCheck x (pairAnswer plan (failingPair (readPlan plan)))) (bookingAnswer plan dump car)
     unfolding lateAnswer checkPlan
     by-plan h x e = rw (le-ltb space 16384 a, eq-eqb (length car) 512 h, e)
-
--- ---- of a run by events: whoever has a session is one of the plan's vehicles
-
-in-sessions : (n : ℕ) (l : List Session) → ((v : ℕ) → n ≤ v → count (has (eqb v)) l ≡ 0) → All (λ x. x .vehicle < n) l
-in-sessions n [] h = none
-in-sessions n (x ∷ l) h = also (here (ltb (x .vehicle) n) refl) (in-sessions n l (λ v k. omega (arith, h v k)))
-  where
-    here : (t : Bool) → ltb (x .vehicle) n ≡ t → x .vehicle < n
-    here true e = ltb-true (x .vehicle) n e
-    here false e = absurd (omega (arith, ap tick (eq-eqb (x .vehicle) (x .vehicle) refl), h (x .vehicle) (ltb-false (x .vehicle) n e)))
-
-sessions-in : (p : Plan) (n : ℕ) → All (λ x. x .vehicle < length (p .vehicles)) (run p n .site .sessions)
-sessions-in p n = in-sessions (length (p .vehicles)) (run p n .site .sessions) (λ v k. omega (arith, no-spot p n v k))
 
 -- the two events of a car that is yet to arrive
 not-empty : (e : Event) (l : List Event) → isEmpty (push e l) ≡ false
@@ -239,7 +225,7 @@ module _ (plan dump car : List ℕ) (k : Booking plan dump car) where
     unfolding Begins
     sessions i h =
         let count : sessionCount dump ≡ length (run p n .site .sessions) = ap sessionCount (old .1) ∙ session-count plan (run p n) (old .0) few-pending few-booked in
-        let inside : i < length (bookSessions plan (run p n .site .sessions)) = omega (arith, h, count, length-said plan n) in
+        let inside : i < length (bookSessions plan (run p n .site .sessions)) = omega (arith, h, count, length-said plan (run p n .site .sessions)) in
         let now = ap (λ (b : List ℕ). sessionAt b i) shown ∙ session-read (longer plan car) (withCar (vehicleCount plan) x (run p n)) rest few-joined i (rw same-booked inside) in
         let was = ap (λ (b : List ℕ). sessionAt b i) (old .1) ∙ session-read plan (run p n) (old .0) few-pending i inside in
         rw (now, was, same-booked)

@@ -10,7 +10,8 @@ use Rattle.charger.specs.declared.vehicle.Vehicle.{Vehicle}
 use Rattle.charger.specs.First.{Found, nobody, found, first}
 use Rattle.charger.specs.Lists.{All, none, also}
 use Rattle.charger.specs.Vehicle.{noVehicle, compatible}
-use Rattle.charger.proofs.Lists.{all-head, all-right, Searched, missed, met, searched}
+use Rattle.charger.specs.Fleet.{queuedOf, fleetFull}
+use Rattle.charger.proofs.Lists.{count-alike, all-map, all-head, all-right, Searched, missed, met, searched}
 use Rattle.engine.specs.declared.events.Event.{Event}
 use Rattle.engine.specs.declared.events.EventType.{EventType}
 use Rattle.engine.specs.declared.events.EventType.the-variants.{Arrival, Renege, Unplug}
@@ -82,14 +83,22 @@ module _ (p : Plan) (x : Vehicle) where
 
   -- ---- what an event does
 
-  on-arrival : (now w : ℕ) (f : SiteState Occupant) → w < v → (r : Found) → arrived q (events q) now w (late f) r ≡ late (arrived p (events p) now w f r)
-  unfolding balks
-  on-arrival now w f h nobody = rw (same-vehicle w h) (away (balks (p .vehicles) w (f .queue)))
+  -- the whole fleet that is queued is of the plan
+  same-queued : (fleet : ℕ) (l : List ℕ) → All (λ u. u < v) l → queuedOf (q .vehicles) fleet l ≡ queuedOf (p .vehicles) fleet l
+  unfolding queuedOf
+  same-queued fleet l h = count-alike (all-map (λ u b. ap (λ (y : Vehicle). eqb (y .fleet) fleet) (same-vehicle u b)) h)
+
+  same-balks : (w : ℕ) (l : List ℕ) → w < v → All (λ u. u < v) l → balks (q .vehicles) (q .queuePlaces) w l ≡ balks (p .vehicles) (p .queuePlaces) w l
+  unfolding balks fleetFull
+  same-balks w l h all = rw (same-vehicle w h, same-queued (vehicle p w .fleet) l all)
+
+  on-arrival : (now w : ℕ) (f : SiteState Occupant) → w < v → All (λ u. u < v) (f .queue) → (r : Found) → arrived q (events q) now w (late f) r ≡ late (arrived p (events p) now w f r)
+  on-arrival now w f h all nobody = rw (same-balks w (f .queue) h all) (away (balks (p .vehicles) (p .queuePlaces) w (f .queue)))
     where
       away : (b : Bool) → turnedAway w (late f) b ≡ late (turnedAway w f b)
       away true = refl
       away false = refl
-  on-arrival now w f h (found c rest) = same-start now w c f h
+  on-arrival now w f h all (found c rest) = same-start now w c f h
 
   on-renege : (now w : ℕ) (f : SiteState Occupant) → All (λ u. u < v) (f .queue) → {r : Found} → Searched (eqb w) (f .queue) r
       → reneged q (events q) now (late f) r ≡ late (reneged p (events p) now f r)
@@ -106,6 +115,6 @@ module _ (p : Plan) (x : Vehicle) where
       → handle q (events q) k now w c (late f) ≡ late (handle p (events p) k now w c f)
   same-handled Arrival now w c f h all =
       let same : available q (events q) (late f) w ≡ available p (events p) f w = fun-ext (λ d. rw (same-free (f .places) d, same-fits w h d)) in
-      rw same (on-arrival now w f h (first (available p (events p) f w) (below (length (p .chargers)))))
+      rw same (on-arrival now w f h all (first (available p (events p) f w) (below (length (p .chargers)))))
   same-handled Renege now w c f h all = on-renege now w f all (searched (eqb w) (f .queue))
   same-handled Unplug now w c f h all = rw (same-first c (f .queue) all) (on-unplug now c f all (searched (λ u. fits p u c) (f .queue)))

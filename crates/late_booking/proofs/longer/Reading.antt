@@ -19,7 +19,7 @@ use Rattle.plan.specs.declared.places.Kind.{Kind}
 use Rattle.plan.specs.declared.places.Kind.the-variants.{Header, Profile, Charger, Vehicle}
 use Rattle.plan.proofs.blocks.Laws.{block-read}
 use Rattle.plan.proofs.SearchLaws.{first-same, each-suc, each-same}
-use Rattle.files.specs.Read.{noBattery, curveOfProfile, batteryOf, chargerOf, rowOfCharger, chargersOf, connectorRows, profileIndex, vehicleIn, vehiclesOf, limitOf, readPlan}
+use Rattle.files.specs.Read.{noBattery, curveOfProfile, batteryOf, chargerOf, rowOfCharger, chargersOf, connectorRows, profileIndex, vehicleIn, vehiclesOf, queuePlacesOf, limitOf, readPlan}
 use Rattle.files.specs.Code.Reading.{Counted}
 use Rattle.late_booking.specs.LongerPlan.{longer}
 use Rattle.late_booking.specs.LateCar.{carOf, withVehicle}
@@ -48,6 +48,13 @@ module _ (plan car : List ℕ) (c : Counted plan) where
   pub same-limit : limitOf (longer plan car) ≡ limitOf plan
   unfolding limitOf
   same-limit = rw (later-fields plan car long 1 2 (omega arith), later-fields plan car long 8 6 (omega arith))
+
+  pub same-queue-places : queuePlacesOf (longer plan car) ≡ queuePlacesOf plan
+  unfolding queuePlacesOf leAt
+  same-queue-places =
+      each-same _ _ 0 64 (λ k a b.
+      let e : 10 + (14 + k) ≡ 24 + k = omega arith in
+      omega (arith, rw e at (later-fields plan car long 1 (14 + k) (omega arith))))
 
   -- ---- the blocks
 
@@ -146,4 +153,5 @@ module _ (plan car : List ℕ) (c : Counted plan) where
       chargers = same-charger-list i;
       connectors = same-rows i;
       vehicles = car-behind i;
+      queuePlaces = same-queue-places i;
     }

@@ -6,7 +6,7 @@ use Prim.Native.Nat.{ℕ, _<_}
 use lib.ListN.{getD}
 use Rattle.plan.specs.declared.answer.Answer.the-variants.{Fine}
 use Rattle.book_reader.specs.Reader.{testAnswer}
-use Rattle.book_reader.proofs.sessions.Laws.{session-count}
+use Rattle.files.proofs.SessionsIn.{session-count}
 use Rattle.book_reader.proofs.reader.Promises.{fine-room, fine-read, refused-read, same-numbers, promised}
 use borrow.Author.Needs.{needs}
 use Rattle.book_reader.proofs.numbers.read_numbers.Statement.{statement}

@@ -19,9 +19,12 @@ cast-t5 c = search needs
 cast-t6 : tie.Need-cast-t6
 cast-t6 c = search needs
 
+cast-t7 : tie.Need-cast-t7
+cast-t7 c = search needs
+
 returns : tie.Need-returns
 unfolding sessionNumbers
 returns c = cc
 
 pub session-numbers-spec : {M : Type 1} → statement M
-session-numbers-spec = tie.close (tie.spec cast-t2 cast-t3 cast-t4 cast-t5 cast-t6 returns)
+session-numbers-spec = tie.close (tie.spec cast-t2 cast-t3 cast-t4 cast-t5 cast-t6 cast-t7 returns)

@@ -25,6 +25,12 @@ u8-at-requires-2 c κs = search needs
 cast-t8 : tie.Need-cast-t8
 cast-t8 c = search needs
 
+u16-at-requires : tie.Need-u16-at-requires
+u16-at-requires c κs = search needs
+
+cast-t10 : tie.Need-cast-t10
+cast-t10 c = search needs
+
 u64-at-requires : tie.Need-u64-at-requires
 u64-at-requires c κs = search needs
 
@@ -70,6 +76,8 @@ read-session-spec =
     cast-t6
     u8-at-requires-2
     cast-t8
+    u16-at-requires
+    cast-t10
     u64-at-requires
     u64-at-requires-2
     u64-at-requires-3

@@ -8,7 +8,7 @@ use Rattle.plan.specs.Search.{each}
 use Rattle.plan.proofs.SearchLaws.{fill-step}
 use Rattle.files.specs.Code.Writing.{emptyFrom}
 use Rattle.files.proofs.book_session.Laws.{empty-start, empty-set}
-use Rattle.book_reader.proofs.sessions.Laws.{sessionIn, sessions-each, in-book}
+use Rattle.files.proofs.SessionsIn.{sessionIn, sessions-each, in-book}
 use Rattle.book_reader.proofs.sessions.read_sessions.Statement.{statement}
 use Rattle.book_reader.proofs.sessions.read_sessions.Tie as tie
 

@@ -1,7 +1,8 @@
 -- `book_reader::sessions::session_at` meets its contract. Assumes nothing.
 use mathlib.Core.Path.{sym, _∙_}
 use native.Mathlib.Omega.{arith}
-use Rattle.book_reader.proofs.sessions.Laws.{in-book, past-last, in-rest}
+use Rattle.files.proofs.SessionsIn.{in-book, past-last}
+use Rattle.book_reader.proofs.sessions.Laws.{in-rest}
 use borrow.Author.Needs.{needs}
 use Rattle.book_reader.proofs.sessions.session_at.Statement.{statement}
 use Rattle.book_reader.proofs.sessions.session_at.Tie as tie

@@ -1,6 +1,5 @@
 -- `book_reader::sessions::sessions_ok` meets its contract. Assumes nothing.
 use mathlib.Core.Path.{_≡_, sym, _∙_}
-use mathlib.Core.Bool.{_&&_}
 use Prim.Native.Nat.{_-_}
 use native.Mathlib.Nat.{sub-zero}
 use native.Mathlib.Omega.{arith}
@@ -20,15 +19,15 @@ Inv-loop book n k₀ k = every (sessionOk book) k (n - k) ≡ every (sessionOk b
 abbrev μ-loop : tie.MeasureT-loop
 μ-loop book n k₀ k = n - k
 
--- the tests of the session at k
-tested : (c : tie.After-zeros Inv-loop μ-loop) → let at-loop = c .before .before .before .before .before .before in
-    (c .before .session-ok .result && c .zeros .result) ≡ sessionOk (at-loop .before .before .args .book .now) (at-loop .loop .k)
+-- the test of the session at k
+tested : (c : tie.After-session-ok Inv-loop μ-loop) → let at-loop = c .before .before .before .before .before in
+    c .session-ok .result ≡ sessionOk (at-loop .before .before .args .book .now) (at-loop .loop .k)
 unfolding sessionOk
 tested c =
-    let read = c .before .before in
+    let read = c .before in
     let offset = read .before .before in
     let at-loop = offset .before .before in
-    rw (c .before .session-ok .ensures, c .zeros .ensures, read .read-session .ensures, offset .offset-of .ensures, in-rest (at-loop .before .before .args .book .now) (at-loop .loop .k))
+    rw (c .session-ok .ensures, read .read-session .ensures, offset .offset-of .ensures, in-rest (at-loop .before .before .args .book .now) (at-loop .loop .k))
 
 loop-holds : tie.Need-loop-holds Inv-loop μ-loop
 loop-holds c = rw sub-zero
@@ -51,18 +50,9 @@ read-session-requires c κs = simp (length-take, length-drop) (omega arith)
 session-ok-requires : tie.Need-session-ok-requires Inv-loop μ-loop
 session-ok-requires c κs = search needs
 
-add-zeros : tie.Need-add-zeros Inv-loop μ-loop
-add-zeros c = omega arith
-
-add-zeros-2 : tie.Need-add-zeros-2 Inv-loop μ-loop
-add-zeros-2 c = omega arith
-
-zeros-requires : tie.Need-zeros-requires Inv-loop μ-loop
-zeros-requires c κs = omega arith
-
 returns : tie.Need-returns Inv-loop μ-loop
 returns c =
-    let at-loop = c .before .before .before .before .before .before .before in
+    let at-loop = c .before .before .before .before .before .before in
     let a = at-loop .before .before .args in
     sym (every-broken (sessionOk (a .book .now)) (at-loop .loop .k) (a .n) (omega arith) (sym (tested (c .before)) ∙ not-true _ (c .if1 .taken))) ∙ at-loop .loop .inv
 
@@ -74,7 +64,7 @@ loop-less c = omega arith
 
 loop-again : tie.Need-loop-again Inv-loop μ-loop
 loop-again c =
-    let at-loop = c .before .before .before .before .before .before .before in
+    let at-loop = c .before .before .before .before .before .before in
     let a = at-loop .before .before .args in
     every-again (sessionOk (a .book .now)) (at-loop .loop .k) (a .n) (omega arith) (sym (tested (c .before)) ∙ not-false _ (c .if1 .left)) (at-loop .loop .inv)
 
@@ -97,9 +87,6 @@ sessions-ok-spec =
     part-read-session-end
     read-session-requires
     session-ok-requires
-    add-zeros
-    add-zeros-2
-    zeros-requires
     returns
     add-k
     loop-less

@@ -30,7 +30,7 @@ returns c =
     let got = searched .before .before in
     let s = got .before in
     let a = s .args in
-    charges (listed (a .vehicles)) (take (a .count) (a .rows)) (a .count) (a .queue) (a .places) (a .v) (searched .before .free-of .result) (got .get-vehicle .result)
+    charges (listed (a .vehicles)) (a .vehicles .«queue_places») (take (a .count) (a .rows)) (a .count) (a .queue) (a .places) (a .v) (searched .before .free-of .result) (got .get-vehicle .result)
     (searched .free-charger .result) (places-long s) (λ i h. searched .before .free-of .ensures i (omega (arith, s .pre .1))) (got .get-vehicle .ensures) (searched .free-charger .ensures)
     (c .if1 .taken)
 
@@ -49,7 +49,7 @@ returns-2 c =
     let s = got .before in
     let a = s .args in
     rw (c .effect-of .ensures)
-    (turns (listed (a .vehicles)) (take (a .count) (a .rows)) (a .count) (a .queue) (a .places) (a .v) (searched .before .free-of .result) (got .get-vehicle .result)
+    (turns (listed (a .vehicles)) (a .vehicles .«queue_places») (take (a .count) (a .rows)) (a .count) (a .queue) (a .places) (a .v) (searched .before .free-of .result) (got .get-vehicle .result)
     (searched .free-charger .result) (places-long s) (λ i h. searched .before .free-of .ensures i (omega (arith, s .pre .1))) (got .get-vehicle .ensures) (searched .free-charger .ensures)
     (none .if1 .left) (away .turn-away .ensures))
 

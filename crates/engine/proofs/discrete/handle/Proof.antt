@@ -42,7 +42,7 @@ returns-2 : tie.Need-returns-2
 returns-2 c =
     let a = c .before .before .before .before .args in
     rw (c .before .before .enum-told2 .given .1, c .effect-of .ensures)
-    (reneges (listed (a .vehicles)) (take (a .count) (a .rows)) (a .count) (a .queue) (a .places) (c .before .renege .ensures) (a .e .charger))
+    (reneges (listed (a .vehicles)) (a .vehicles .«queue_places») (take (a .count) (a .rows)) (a .count) (a .queue) (a .places) (c .before .renege .ensures) (a .e .charger))
 
 returns-3 : tie.Need-returns-3
 returns-3 c =

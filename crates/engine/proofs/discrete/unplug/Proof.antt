@@ -22,7 +22,7 @@ returns c =
     let popped = freed .before in
     let row = popped .before .row-of in
     let a = popped .before .before .args in
-    passes (listed (a .vehicles)) (take (a .count) (a .rows)) (a .count) (a .queue) (a .places) (a .c) (popped .pop-compatible .result) (row .result) (row .ensures)
+    passes (listed (a .vehicles)) (a .vehicles .«queue_places») (take (a .count) (a .rows)) (a .count) (a .queue) (a .places) (a .c) (popped .pop-compatible .result) (row .result) (row .ensures)
     (popped .pop-compatible .ensures) (freed .placed .result) (freed .placed .ensures) (taken .if1 .taken)
 
 returns-2 : tie.Need-returns-2
@@ -31,7 +31,7 @@ returns-2 c =
     let popped = freed .before in
     let row = popped .before .row-of in
     let a = popped .before .before .args in
-    frees (listed (a .vehicles)) (take (a .count) (a .rows)) (a .count) (a .queue) (a .places) (a .c) (popped .pop-compatible .result) (row .result) (row .ensures)
+    frees (listed (a .vehicles)) (a .vehicles .«queue_places») (take (a .count) (a .rows)) (a .count) (a .queue) (a .places) (a .c) (popped .pop-compatible .result) (row .result) (row .ensures)
     (popped .pop-compatible .ensures) (freed .placed .result) (freed .placed .ensures) (c .if1 .left)
 
 pub unplug-spec : {M : Type 1} → statement M

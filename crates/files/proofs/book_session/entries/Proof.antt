@@ -28,7 +28,7 @@ long c = search (needs, length-mapped)
 entry-fits : (c : tie.After-entry Inv-loop μ-loop) → Fits (c .entry .result)
 entry-fits c =
     let ids = c .entry .ok .1 .1 in
-    let times = ids .1 .1 .1 .1 .1 in
+    let times = ids .1 .1 .1 .1 .1 .1 in
     let floats = times .1 .1 .1 .1 in
     record {
       vehicle = omega (arith, ids .0);
@@ -36,6 +36,7 @@ entry-fits c =
       charger = omega (arith, ids .1 .1 .0);
       connector = omega (arith, ids .1 .1 .1 .0);
       outcome = omega (arith, ids .1 .1 .1 .1 .0);
+      fleet = omega (arith, ids .1 .1 .1 .1 .1 .0);
       arrival = omega (arith, times .0);
       plugin = omega (arith, times .1 .0);
       unplug = omega (arith, times .1 .1 .0);

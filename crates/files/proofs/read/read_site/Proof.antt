@@ -23,8 +23,9 @@ returns c =
     let at-count = c .before .before in
     let vehicles = at-count .before .before .read-vehicles .ensures in
     record {
-      vehicles = vehicles .0;
-      vehicleCount = vehicles .1;
+      vehicles = vehicles .0 .0;
+      vehicleCount = vehicles .0 .1;
+      queuePlaces = vehicles .1;
       chargers = rw (at-count .charger-count .ensures .0) (at-count .before .read-chargers .ensures);
       chargerCount = at-count .charger-count .ensures .0;
       batteries = c .before .read-batteries .ensures;

@@ -13,6 +13,12 @@ u8-at-requires c κs = search needs
 connectors-of-requires : tie.Need-connectors-of-requires
 connectors-of-requires c κs = search needs
 
+u16-at-requires : tie.Need-u16-at-requires
+u16-at-requires c κs = search needs
+
+cast-t7 : tie.Need-cast-t7
+cast-t7 c = search needs
+
 f64-at-requires : tie.Need-f64-at-requires
 f64-at-requires c κs = search needs
 
@@ -31,8 +37,8 @@ u64-at-requires-2 c κs = search needs
 u32-at-requires : tie.Need-u32-at-requires
 u32-at-requires c κs = search needs
 
-cast-t6 : tie.Need-cast-t6
-cast-t6 c = search needs
+cast-t15 : tie.Need-cast-t15
+cast-t15 c = search needs
 
 returns : tie.Need-returns
 unfolding vehicleOf
@@ -45,11 +51,13 @@ read-vehicle-spec =
     codes-at-requires
     u8-at-requires
     connectors-of-requires
+    u16-at-requires
+    cast-t7
     f64-at-requires
     f64-at-requires-2
     f64-at-requires-3
     u64-at-requires
     u64-at-requires-2
     u32-at-requires
-    cast-t6
+    cast-t15
     returns)

@@ -67,12 +67,15 @@ loop-again c =
     c .read-vehicle .ensures ∙ rw (c .before .profile-index .ensures, c .before .before .u32-at .ensures, at-block .block .ensures .0, counts .start-of .ensures .0) in
     (omega arith, (simp length-set (at-loop .loop .inv .1 .0), fill-step (vehicleIn (a .plan .now)) (at-loop .loop .all) (at-loop .loop .i) _ (omega arith) (at-loop .loop .inv .1 .1) same))
 
+read-queue-places-requires : tie.Need-read-queue-places-requires Inv-loop μ-loop
+read-queue-places-requires c κs = omega arith
+
 returns : tie.Need-returns Inv-loop μ-loop
 unfolding vehiclesOf
 returns c =
-    let at-loop = c .before in
+    let at-loop = c .before .before in
     let e : at-loop .loop .i ≡ at-loop .before .before .vehicle-count .result = omega arith in
-    (rw (← at-loop .before .before .vehicle-count .ensures .0, ← e) (at-loop .loop .inv .1 .1), at-loop .before .before .vehicle-count .ensures .0)
+    ((rw (← at-loop .before .before .vehicle-count .ensures .0, ← e) (at-loop .loop .inv .1 .1), at-loop .before .before .vehicle-count .ensures .0), c .read-queue-places .ensures)
 
 pub read-vehicles-spec : {M : Type 1} → statement M
 read-vehicles-spec =
@@ -94,4 +97,5 @@ read-vehicles-spec =
     add-i
     loop-less
     loop-again
+    read-queue-places-requires
     returns)

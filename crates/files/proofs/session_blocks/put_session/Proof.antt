@@ -21,6 +21,9 @@ cast-t8 c = search needs
 cast-t9 : tie.Need-cast-t9
 cast-t9 c = search needs
 
+cast-t10 : tie.Need-cast-t10
+cast-t10 c = search needs
+
 slice-aggregate-put-fields : tie.Need-slice-aggregate-put-fields
 slice-aggregate-put-fields c = search needs
 
@@ -44,6 +47,7 @@ put-session-spec =
     cast-t7
     cast-t8
     cast-t9
+    cast-t10
     slice-aggregate-put-fields
     put-fields-requires
     same-length

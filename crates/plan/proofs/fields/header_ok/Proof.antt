@@ -12,6 +12,9 @@ limit-ok-requires c κs = search needs
 zeros-requires-2 : tie.Need-zeros-requires-2
 zeros-requires-2 c κs = search needs
 
+bytes-in-requires : tie.Need-bytes-in-requires
+bytes-in-requires c κs = search needs
+
 zeros-requires-3 : tie.Need-zeros-requires-3
 zeros-requires-3 c κs = search needs
 
@@ -20,4 +23,4 @@ returns c = cc
 
 pub header-ok-spec : {M : Type 1} → statement M
 header-ok-spec =
-    tie.close (tie.spec zeros-requires limit-ok-requires zeros-requires-2 zeros-requires-3 returns)
+    tie.close (tie.spec zeros-requires limit-ok-requires zeros-requires-2 bytes-in-requires zeros-requires-3 returns)

@@ -23,6 +23,9 @@ u64-at-requires c κs = search needs
 u64-at-requires-2 : tie.Need-u64-at-requires-2
 u64-at-requires-2 c κs = search needs
 
+u16-at-requires : tie.Need-u16-at-requires
+u16-at-requires c κs = search needs
+
 zeros-requires : tie.Need-zeros-requires
 zeros-requires c κs = search needs
 
@@ -40,5 +43,6 @@ vehicle-ok-spec =
     f64-in-requires-3
     u64-at-requires
     u64-at-requires-2
+    u16-at-requires
     zeros-requires
     returns)
