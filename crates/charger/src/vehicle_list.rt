@@ -20,10 +20,9 @@ impl VehicleList {
         ensures { λ r. ⌜ r ≡ vehicleAt (listed self) v ⌝ }
     {
         let n = self.len;
-        let all = self.all;
         if v < n {
             if v < 64 {
-                return all[v];
+                return self.all[v];
             }
         }
         no_vehicle()

@@ -7,6 +7,7 @@ ghost use Prim.Native.Nat.{_+_, _-_, _≤_, _<_};
 ghost use lib.Dec.{eqb};
 ghost use lib.ListN.{take};
 ghost use Rattle.charger.specs.First.{first};
+ghost use Rattle.charger.specs.Lists.{tick};
 ghost use Rattle.charger.specs.Code.Vehicles.{listed};
 ghost use Rattle.charger.specs.Vehicle.{fitsAt};
 ghost use Rattle.charger.specs.Fleet.{queuedOf, fleetFull};
@@ -80,19 +81,21 @@ impl WaitingQueue {
         at
     }
 
-    // How many of the fleet are queued.
+    // How many of the fleet are queued. The vehicles are read in place: by value they would be copied for each that is queued.
     fn queued_of(self, vehicles: VehicleList, fleet: u16) -> usize
-        requires { ⌜ self .len ≤ 64 ⌝ }
+        requires { ⌜ (self .len ≤ 64) × (1 ≤ fleet) ⌝ }
         ensures { λ r. ⌜ r ≡ queuedOf (listed vehicles) fleet (waiting self) ⌝ }
     {
         let n = self.len;
         let ids = self.ids;
+        let many = vehicles.len;
         let mut queued = 0;
         let mut i = 0;
         while i < n {
-            let vehicle = vehicles.get_vehicle(ids[i]);
-            if vehicle.fleet == fleet {
-                queued += 1;
+            let id = ids[i];
+            if (id < many) & (id < 64) {
+                let vehicle = vehicles.all[id];
+                queued += one_if(vehicle.fleet == fleet);
             }
             i += 1;
         }
@@ -150,6 +153,13 @@ impl WaitingQueue {
     {
         self.taken(self.position_compatible(vehicles, row))
     }
+}
+
+// 1 for yes, 0 for no.
+fn one_if(yes: bool) -> usize
+    ensures { λ r. ⌜ (r ≡ tick yes) × (r ≤ 1) ⌝ }
+{
+    if yes { 1 } else { 0 }
 }
 
 // The queue's places without the one at `at`: those behind it move up.
