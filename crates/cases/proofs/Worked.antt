@@ -19,9 +19,7 @@ use Rattle.engine.specs.SiteState.{balks, uncharged, start_charging}
 use Rattle.engine.specs.Discrete as D
 use Rattle.power.specs.ChargerState.{empty, after_idling}
 use Rattle.power.specs.ChargerState as C
-use Rattle.power.specs.Power.{scaled_caps, even_caps, caps, allocate}
-use Rattle.shares.specs.Watts.{watts_of, kilowatts_of}
-use Rattle.shares.specs.Shares.{total, cut, highest, level, given, left_over, shares}
+use Rattle.power.specs.Power.{allocate}
 use Rattle.engine.specs.Timestep.{open_session, plugged, finalized, round}
 use Rattle.engine.specs.Demand.{Stop}
 use Rattle.plan.specs.Bytes.{le_at, bytes, fields, pieces}
@@ -50,7 +48,7 @@ use Rattle.plan.specs.declared.answer.Answer.{Answer}
 use Rattle.plan.specs.declared.answer.Answer.TheVariants.{Fine, Refused}
 use Rattle.plan.specs.declared.answer.Refusal.TheVariants.{Broken, CannotCharge, NotLater}
 use Rattle.plan.specs.declared.answer.Rule.TheVariants.{Field}
-use Rattle.cases.specs.Bay.{kwh, Bay, plan, bay, second_car, at_target, at_target_under, three_tenths, at_one_kw, nacs_capped, vans, late_car}
+use Rattle.cases.specs.Bay.{kwh, Bay, plan, bay, second_car, at_target, at_one_kw, nacs_capped, vans, late_car}
 use Rattle.cases.specs.Cases.{events, steps, run, book_late, Result, if_fine, back_from, if_booked, result, Worked, ◌gives◌, Holds, worked}
 
 -- ---- a plan's bytes read, checked and run; each line `unfolding` has all that it computes by
@@ -67,7 +65,7 @@ check b = check_plan (plan b)
 
 stop : ℕ → ℕ → Bay → Stop
 unfolding read before start_charging balks fleet_full queued_of uncharged fits rated output stay ceiling D.step D.charged_session
-    allocate caps scaled_caps even_caps C.after_charging after_idling empty open_session plugged finalized round of_int to_unsigned
+    allocate C.after_charging after_idling empty open_session plugged finalized round of_int to_unsigned
 stop engine n b = stop_of (read b) engine n
 
 -- the dump of a plan's run
@@ -136,18 +134,6 @@ places_refused : check (vans 1 65) ≡ Refused (Broken Field 1)
 unfolding check
 places_refused = refl
 
-scaled_fine : check (at_target_under (three_tenths 1)) ≡ Fine
-unfolding check
-scaled_fine = refl
-
-shared_fine : check (at_target_under (three_tenths 2)) ≡ Fine
-unfolding check
-shared_fine = refl
-
-mode_refused : check (at_target_under (three_tenths 3)) ≡ Refused (Broken Field 1)
-unfolding check
-mode_refused = refl
-
 -- ---- a late booking: with M2's second car M1's longer plan is M2's
 
 -- a plan's dump after n events, and a car for which all tests but the last are passed
@@ -191,7 +177,7 @@ infixr 67 ◌and◌
 h and hs = also h hs
 
 pub worked_through : All Holds worked
-unfolding worked result stop dumped back shares total cut highest level given left_over watts_of kilowatts_of
+unfolding worked result stop dumped back
 worked_through =
     by events 10 bay bay_fine refl
     and by events 10 (second_car 1800 10) m2_fine refl
@@ -219,15 +205,4 @@ worked_through =
     and by events 10 (vans 1 1) vans_fine refl
     and by events 10 (vans 65 1) fleet_refused refl
     and by events 10 (vans 1 65) places_refused refl
-    and refl
-    and refl
-    and refl
-    and refl
-    and refl
-    and refl
-    and refl
-    and by steps 10 (at_target_under (three_tenths 1)) scaled_fine refl
-    and by steps 10 (at_target_under (three_tenths 2)) shared_fine refl
-    and by events 10 (at_target_under (three_tenths 2)) shared_fine refl
-    and by steps 10 (at_target_under (three_tenths 3)) mode_refused refl
     and none

@@ -8,7 +8,6 @@ ghost use Rattle.files.specs.Code.Reading.{Loaded, Admitted};
 ghost use Rattle.files.specs.Demand.{ReadsBack, UnitsUsed, FreeKnown, NoFreeFits, OneSpot, OneById, AddUp, CountsOfBook, ClosedStay, ExactWaits, Handled, EventsEnd};
 ghost use Rattle.files.specs.HotDay.{HotDayOfRun, BookByRating};
 ghost use Rattle.files.specs.Fleets.{FleetsWithin, FleetsCarried, AsBefore};
-ghost use Rattle.files.specs.EvenShares.{LimitIgnored};
 ghost use Rattle.files.specs.Pairs.{failing_pair};
 ghost use Rattle.files.specs.Read.{read_plan};
 ghost use Rattle.dump.specs.Dump.{dump_of};
@@ -96,7 +95,6 @@ pub fn dump(plan: &[u8], engine: u32, allowance: u32, book: &mut [u8], dump: &mu
     ensures fleets { FleetsWithin plan.now 0 allowance result }
     ensures carried { FleetsCarried plan.now book.new result }
     ensures no_fleets { AsBefore plan.now result }
-    ensures no_limit { LimitIgnored plan.now 0 result }
 {
     if 0 < engine {
         return RunAnswer::Refused(Refusal::EngineAbove);

@@ -4,9 +4,7 @@ pub mod Laws
 pub mod Waits
 pub mod Fitted
 pub mod Fleets
-pub mod Alike
 pub mod AsBefore
-pub mod NoLimit
 pub mod Places
 pub mod At
 pub mod Simulations

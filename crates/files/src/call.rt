@@ -9,7 +9,6 @@ ghost use Rattle.files.specs.Book.{written};
 ghost use Rattle.files.specs.Demand.{ReadsBack, UnitsUsed, FreeKnown, NoFreeFits, OneSpot, OneById, AddUp, CountsOfBook, ClosedStay, ExactWaits, Handled, EventsEnd, StepsEnd};
 ghost use Rattle.files.specs.HotDay.{HotDayOfPlan, HotDayOfRun, BookByRating};
 ghost use Rattle.files.specs.Fleets.{FleetsWithin, FleetsCarried, AsBefore};
-ghost use Rattle.files.specs.EvenShares.{SharedEvenly, LimitIgnored};
 
 use crate::check::{check_plan, read_plan};
 use crate::stop::{by_engine, write_run};
@@ -85,13 +84,11 @@ pub fn run(plan: &[u8], engine: u32, allowance: u32, book: &mut [u8]) -> RunAnsw
     ensures handled { Handled plan.now engine allowance result }
     ensures events { EventsEnd plan.now engine allowance result }
     ensures steps { StepsEnd plan.now engine allowance result }
-    ensures shares { SharedEvenly plan.now engine result }
     ensures hot_day { HotDayOfRun plan.now result }
     ensures rating { BookByRating plan.now engine book.new result }
     ensures fleets { FleetsWithin plan.now engine allowance result }
     ensures carried { FleetsCarried plan.now book.new result }
     ensures no_fleets { AsBefore plan.now result }
-    ensures no_limit { LimitIgnored plan.now engine result }
 {
     if 1 < engine {
         return RunAnswer::Refused(Refusal::EngineAbove);

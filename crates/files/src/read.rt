@@ -233,12 +233,8 @@ pub fn read_limit(plan: &[u8]) -> Limit
     requires { 512 ≤ length plan.now }
     ensures { result ≡ limit_of plan.now }
 {
-    let mode = u8_at(plan, 12);
-    if mode == 1 {
+    if u8_at(plan, 12) == 1 {
         return Limit::AtMost(Kw(f64_at(plan, 16)));
-    }
-    if mode == 2 {
-        return Limit::Shared(Kw(f64_at(plan, 16)));
     }
     Limit::Unlimited
 }

@@ -59,8 +59,8 @@ fn limit_ok(b: &[u8]) -> bool
     requires { length b.now ≡ 512 }
     ensures { result ≡ limit_ok b.now }
 {
-    let mode = u8_at(b, 12);
-    ((mode == 1) | (mode == 2)) & f64_in(b, 16, 0.125, 65536.0) | (mode == 0) & zeros(b, 16, 24)
+    let present = u8_at(b, 12);
+    (present == 1) & f64_in(b, 16, 0.125, 65536.0) | (present == 0) & zeros(b, 16, 24)
 }
 
 pub fn header_ok(b: &[u8]) -> bool

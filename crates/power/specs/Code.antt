@@ -2,4 +2,3 @@
 pub mod Bank
 pub mod Rounds
 pub mod Alone
-pub mod Deal

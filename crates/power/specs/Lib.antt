@@ -2,5 +2,4 @@
 pub mod ChargerState
 pub mod Power
 pub mod Parked
-pub mod EvenShares
 pub mod Code

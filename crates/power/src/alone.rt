@@ -2,21 +2,18 @@
 ghost use Rattle.std.specs.Prelude.{◌≡◌, true, false, not, ◌&&◌, [], ◌∷◌};
 ghost use Rattle.std.specs.Float.Ieee.{lt, ne};
 ghost use Rattle.charger.specs.Code.Profiles.{curve_at};
-ghost use Rattle.power.specs.ChargerState.{is_free, with_cap, delivered, progress};
+ghost use Rattle.power.specs.ChargerState.{is_free, with_cap, delivered};
 ghost use Rattle.power.specs.Code.Rounds.{spin};
-ghost use Rattle.power.specs.Code.Alone.{scaled_round, share_alone, round_alone, CapMatchesRequest};
+ghost use Rattle.power.specs.Code.Alone.{round_alone, CapMatchesRequest};
 ghost use Rattle.power.specs.Code.Bank.{bank, Room, Rising, Cars, spun};
 
 use crate::bank::{load, store};
 use crate::charger_state::{ChargerState, is_charging, is_finished, is_free};
-use crate::even_shares::{cap_of_share, watts_asked};
 use crate::power::{Limit, Spun, added, cap_of, scaling};
 use crate::thin::advanced;
 use charger::charge_profile_list::{place_on_curve, reached_on_curve};
 use curve::float::same;
 use curve::units::Kw;
-use shares::even::smaller;
-use shares::watts::watts;
 
 // A car's state after some rounds.
 #[derive(Drop)]
@@ -42,20 +39,10 @@ fn by_cap(s: ChargerState, cap: f64) -> ChargerState
     s.with_cap(Kw(cap)).delivered(cap)
 }
 
-// A round by even shares: the car has its whole watts as far as the limit goes.
-fn shared_round(asked: ChargerState, limit: Kw) -> ChargerState
-    ensures { result ≡ progress (with_cap (share_alone limit asked) asked) }
-{
-    let status = asked.status;
-    let wanted = watts_asked(status, asked.draw());
-    let most = watts(limit.0);
-    advanced(asked, cap_of_share(smaller(wanted, most)))
-}
-
-// A round that is scaled. Where tests tell whether the car draws the rated power or what it asks for, the next round need not wait
-// for the smaller of the two.
-fn scaled_round(s: ChargerState, power: Kw, limit: Limit) -> ChargerState
-    ensures { result ≡ scaled_round limit power s }
+// A round. Where tests tell whether the car draws the rated power or what it asks for, the next round need not wait for the
+// smaller of the two.
+fn round(s: ChargerState, power: Kw, limit: Limit) -> ChargerState
+    ensures { result ≡ round_alone limit power s }
 {
     let asked = s.with_request(power);
     let status = s.status;
@@ -82,17 +69,6 @@ fn scaled_round(s: ChargerState, power: Kw, limit: Limit) -> ChargerState
         asked,
         cap_of(asked, scaling(limit, added(0.0, status, asked.draw()))),
     )
-}
-
-// A round.
-fn round(s: ChargerState, power: Kw, limit: Limit) -> ChargerState
-    ensures { result ≡ round_alone limit power s }
-{
-    match limit {
-        Limit::Unlimited => scaled_round(s, power, limit),
-        Limit::AtMost(_) => scaled_round(s, power, limit),
-        Limit::Shared(kw) => shared_round(s.with_request(power), kw),
-    }
 }
 
 // The same round, which is short where the car still charges and asks for what it asked for in the round before: its cap stays then.

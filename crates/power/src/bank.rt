@@ -1,11 +1,9 @@
 // The bank: the states of all chargers in two lent slices of rows, nine floats and four bytes for each charger.
 ghost use Rattle.std.specs.Prelude.{◌≡◌, ◌+◌};
-ghost use Rattle.power.specs.ChargerState.{empty, with_cap, progress};
-ghost use Rattle.power.specs.Code.Rounds.{or_finished};
+ghost use Rattle.power.specs.ChargerState.{empty};
 ghost use Rattle.power.specs.Code.Bank.{status_byte, status_of, state_at, Room, Stored};
 
-use crate::charger_state::{ChargerState, Status, is_finished};
-use crate::thin::advanced;
+use crate::charger_state::{ChargerState, Status};
 use curve::units::{Kw, Kwh, Seconds};
 
 fn status_byte(status: Status) -> u8
@@ -76,28 +74,6 @@ pub fn store(floats: &mut [[f64; 9]], bytes: &mut [[u8; 4]], i: usize, s: Charge
         s.energy.0,
         s.peak.0,
     ];
-}
-
-// The car s at the place i, a round further under its cap. Says whether some charger is finished.
-pub fn move_on(
-    floats: &mut [[f64; 9]],
-    bytes: &mut [[u8; 4]],
-    i: usize,
-    s: ChargerState,
-    cap: Kw,
-    any: bool,
-) -> bool
-    requires { Room (i + 1) floats.old bytes.old }
-    ensures state { Stored i (progress (with_cap cap s)) floats.old bytes.old floats.new bytes.new }
-    ensures any { result ≡ or_finished any (progress (with_cap cap s)) }
-{
-    let t = advanced(s, cap);
-    store(floats, bytes, i, t);
-    let after = t.status;
-    if is_finished(after) {
-        return true;
-    }
-    any
 }
 
 // Leaves the charger at the place i with no car.

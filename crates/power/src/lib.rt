@@ -2,7 +2,6 @@
 pub mod alone;
 pub mod bank;
 pub mod charger_state;
-pub mod even_shares;
 pub mod power;
 pub mod rounds;
 pub mod thin;

@@ -2,34 +2,31 @@
 ghost use Rattle.std.specs.Prelude.{◌≡◌, false, map, ◌+◌, ◌≤◌, ◌<◌};
 ghost use Rattle.curve.specs.F64.{ratio};
 ghost use Rattle.charger.specs.Code.Profiles.{curve_at};
-ghost use Rattle.power.specs.Code.Bank.{state_at, bank, Room, Rising, Cars, Requested, advanced, Moved, spun};
-ghost use Rattle.power.specs.EvenShares.{SharedEvenly};
+ghost use Rattle.power.specs.Code.Bank.{bank, Room, Rising, Cars, Requested, advanced, Advanced, spun};
 ghost use Rattle.power.specs.Parked.{ParkedDrawNothing};
 ghost use Rattle.power.specs.Power as Spec;
 ghost use Rattle.power.specs.Code.Rounds as Rounds;
 
-use crate::bank::{load, move_on, store};
-use crate::charger_state::{ChargerState, Status, is_free};
-use crate::even_shares::advance_evenly;
+use crate::bank::{load, store};
+use crate::charger_state::{ChargerState, Status, is_finished, is_free};
+use crate::thin::advanced;
 use charger::charge_profile_list::place_on_curve;
 use curve::units::Kw;
 
-// The most that all chargers may draw together: each scaled alike, or shared evenly (request 10).
+// The most that all chargers may draw together.
 #[derive(Drop)]
 pub enum Limit {
     Unlimited,
     AtMost(Kw),
-    Shared(Kw),
 }
 
-// The limit's part of the sum, if the sum is strictly above the limit. A limit that is shared evenly scales nothing.
+// The limit's share of the sum, if the sum is strictly above the limit.
 pub fn scaling(limit: Limit, sum: f64) -> f64
     ensures { result ≡ Spec.scaling limit sum }
 {
     match limit {
         Limit::Unlimited => 1.0,
         Limit::AtMost(kw) => { if kw.0 < sum { kw.0 / sum } else { 1.0 } }
-        Limit::Shared(_) => 1.0,
     }
 }
 
@@ -110,7 +107,7 @@ fn request_power(
     sum
 }
 
-// One charger's turn in the second pass: its cap by the factor, and its progress.
+// One charger's turn in the second pass: its cap and its progress.
 fn advance_at(
     floats: &mut [[f64; 9]],
     bytes: &mut [[u8; 4]],
@@ -119,14 +116,20 @@ fn advance_at(
     any: bool,
 ) -> bool
     requires { Room (i + 1) floats.old bytes.old }
-    ensures { Moved (Spec.cap_of factor (state_at floats.old bytes.old i)) i any floats.old bytes.old floats.new bytes.new result }
+    ensures { Advanced factor i any floats.old bytes.old floats.new bytes.new result }
 {
     let s = load(floats, bytes, i);
     let status = s.status;
     if is_free(status) {
         return any;
     }
-    move_on(floats, bytes, i, s, cap_of(s, factor), any)
+    let t = advanced(s, cap_of(s, factor));
+    store(floats, bytes, i, t);
+    let after = t.status;
+    if is_finished(after) {
+        return true;
+    }
+    any
 }
 
 // The second pass: every car's cap and progress. Says whether some charger is finished.
@@ -168,15 +171,10 @@ fn charge(
     requires rising { Rising curves.now lens.now }
     ensures moved { bank n floats.new bytes.new ≡ Spec.charge limit (curve_at curves.now lens.now) (bank n floats.old bytes.old) }
     ensures any { result ≡ Rounds.any_finished false (bank n floats.new bytes.new) }
-    ensures even { SharedEvenly limit (curve_at curves.now lens.now) (bank n floats.old bytes.old) (bank n floats.new bytes.new) }
     ensures parked { ParkedDrawNothing limit (curve_at curves.now lens.now) (bank n floats.old bytes.old) (bank n floats.new bytes.new) }
 {
     let sum = request_power(floats, bytes, n, busy, curves, lens, segments);
-    match limit {
-        Limit::Unlimited => advance(floats, bytes, n, busy, scaling(limit, sum)),
-        Limit::AtMost(_) => advance(floats, bytes, n, busy, scaling(limit, sum)),
-        Limit::Shared(kw) => advance_evenly(floats, bytes, n, busy, kw),
-    }
+    advance(floats, bytes, n, busy, scaling(limit, sum))
 }
 
 // How many rounds were charged, and whether a charger is finished.

@@ -209,10 +209,6 @@ fn works() -> Vec<Work> {
             }
         }
     }
-    for chargers in [1, 4, 32] {
-        works.extend([false, true].map(|binds| even_shares(chargers, binds)));
-    }
-    works.push(mixed_shares());
     works.push(parked(1));
     works.push(parked(4));
     works.push(day());
@@ -288,26 +284,6 @@ fn rounds(chargers: u32, points: u32, high: bool, limited: bool) -> Work {
         if limited { ", limit binds" } else { "" }
     );
     Work { name, plan: steady(chargers, points, high, limited), call: Call::Run(1, 100_000), per: Per::Round }
-}
-
-/// The cars of 30 points and a low SOC, which share a limit evenly. Each asks for less than 3 kW.
-fn even_shares(chargers: u32, binds: bool) -> Work {
-    let mut draft = Draft::of(&steady(chargers, 30, false, false)).unwrap();
-    draft.set_even_shares(if binds { 1.5 } else { 3.0 } * f64::from(chargers));
-    let fit = if binds { "limit binds" } else { "requests fit" };
-    let name = format!("steps: {chargers} busy, 30 points, low SOC, even shares, {fit}");
-    Work { name, plan: draft.bytes(), call: Call::Run(1, 100_000), per: Per::Round }
-}
-
-/// The same with chargers of growing power, below what the cars ask for: every request is another.
-fn mixed_shares() -> Work {
-    let Work { name, plan, .. } = even_shares(32, true);
-    let mut draft = Draft::of(&plan).unwrap();
-    for (k, block) in (0..).zip(&mut draft.chargers) {
-        *block = charger(k, &[], 0.7 + 0.04 * f64::from(k), 1_200.0, 400.0);
-    }
-    draft.set_even_shares(38.4);
-    Work { name: format!("{name}, mixed requests"), plan: draft.bytes(), call: Call::Run(1, 100_000), per: Per::Round }
 }
 
 /// Cars that are parked from the second round on, under a limit that would bind if they counted.

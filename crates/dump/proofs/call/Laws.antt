@@ -22,7 +22,6 @@ use Rattle.files.specs.Code.Reading.{Loaded, Admitted}
 use Rattle.files.specs.Demand.{OfRun, ReadsBack, UnitsUsed, FreeKnown, NoFreeFits, OneSpot, OneById, AddUp, CountsOfBook, ClosedStay, ExactWaits, Handled, EventsEnd}
 use Rattle.files.specs.HotDay.{HotDayOfRun, BookByRating}
 use Rattle.files.specs.Fleets.{FleetsWithin, FleetsCarried, AsBefore}
-use Rattle.files.specs.EvenShares.{LimitIgnored}
 use Rattle.files.proofs.call.RunLaws.{runnable, plan_read}
 use Rattle.files.proofs.call.Demanded.{Runs, answered, Promises}
 use Rattle.dump.specs.Dump.{dump_bytes, dump_of}
@@ -98,9 +97,8 @@ EventPromises plan n book r =
     × (BookByRating plan 0 book r
     × (FleetsWithin plan 0 n r
     × (FleetsCarried plan book r
-    × (AsBefore plan r
-    × LimitIgnored plan 0 r))))))))))))))))
+    × AsBefore plan r)))))))))))))))
 
 pub of_events : (plan : List ℕ) (n : ℕ) (book : List ℕ) (r : RunAnswer) → Promises plan 0 n book r → EventPromises plan n book r
-of_events plan n book r (back, (units, (free, (settled, (spots, (ids, (counts, (outcomes, (closed, (waits, (handled, (events, (steps, (shares, rest)))))))))))))) =
+of_events plan n book r (back, (units, (free, (settled, (spots, (ids, (counts, (outcomes, (closed, (waits, (handled, (events, (steps, rest))))))))))))) =
     (back, (units, (free, (settled, (spots, (ids, (counts, (outcomes, (closed, (waits, (handled, (events, rest))))))))))))

@@ -18,9 +18,6 @@ use Rattle.files.specs.Call.{stop_of, totals, if_fine, answer_of, book_of, book_
 use Rattle.files.specs.Demand.{OfRun, ReadsBack, UnitsUsed, FreeKnown, NoFreeFits, OneSpot, OneById, AddUp, CountsOfBook, ClosedStay, ExactWaits, Handled, EventsEnd, StepsEnd}
 use Rattle.files.specs.HotDay.{HotDayOfRun, BookByRating}
 use Rattle.files.specs.Fleets.{FleetsWithin, FleetsCarried, AsBefore}
-use Rattle.files.specs.EvenShares.{SharedEvenly, LimitIgnored}
-use Rattle.engine.proofs.site.NoLimit.{no_limit}
-use Rattle.files.proofs.call.EvenShares.{evenly}
 use Rattle.files.specs.BookSession.{book_sessions}
 use Rattle.plan.specs.declared.answer.Answer.{Answer}
 use Rattle.plan.specs.declared.answer.Answer.TheVariants.{Fine, Refused}
@@ -121,17 +118,15 @@ Promises plan engine n book r =
     × (Handled plan engine n r
     × (EventsEnd plan engine n r
     × (StepsEnd plan engine n r
-    × (SharedEvenly plan engine r
     × (HotDayOfRun plan r
     × (BookByRating plan engine book r
     × (FleetsWithin plan engine n r
     × (FleetsCarried plan book r
-    × (AsBefore plan r
-    × LimitIgnored plan engine r))))))))))))))))))
+    × AsBefore plan r))))))))))))))))
 
 -- nothing is promised of a refused call
 pub unpromised : (x : Refusal) → Promises [] 0 0 [] (RunRefused x)
-unpromised x = (tt, (tt, (tt, (tt, (tt, (tt, (tt, (tt, (tt, (tt, (tt, (tt, (tt, (tt, (tt, (tt, (tt, (tt, (tt, tt)))))))))))))))))))
+unpromised x = (tt, (tt, (tt, (tt, (tt, (tt, (tt, (tt, (tt, (tt, (tt, (tt, (tt, (tt, (tt, (tt, (tt, tt)))))))))))))))))
 
 -- the bytes of the book
 pub book_bytes_lem : (plan : List ℕ) (engine n : ℕ) (old book : List ℕ) (r : RunAnswer) → book ≡ book_after plan engine n r old
@@ -190,12 +185,6 @@ module _ (plan : List ℕ) (engine n : ℕ) (r : RunAnswer) (runs : OfRun (Runs 
   no_fleet : AsBefore plan r
   no_fleet = of_map (λ t k. no_fleets plan) r runs
 
-  shared : SharedEvenly plan engine r
-  shared = of_map (λ t k z. evenly plan) r runs
-
-  ignored : LimitIgnored plan engine r
-  ignored = of_map (λ t k z. no_limit (read_plan plan)) r runs
-
   -- ---- and those of the book
 
   module _ (old book : List ℕ) (b : book ≡ book_after plan engine n r old) (back : ReadsBack plan engine n book r) where
@@ -246,4 +235,4 @@ module _ (plan : List ℕ) (engine n : ℕ) (r : RunAnswer) (runs : OfRun (Runs 
 
     pub promised : Promises plan engine n book r
     promised =
-        (back, (units_used, (free_known, (no_free_fits, (one_spot, (one_id, (add_up, (counts_of_book, (closed-stay, (exact_waits, (handled, (events_end, (steps_end, (shared, (hot_day, (book_rated, (within, (carried, (no_fleet, ignored)))))))))))))))))))
+        (back, (units_used, (free_known, (no_free_fits, (one_spot, (one_id, (add_up, (counts_of_book, (closed-stay, (exact_waits, (handled, (events_end, (steps_end, (hot_day, (book_rated, (within, (carried, no_fleet)))))))))))))))))

@@ -11,16 +11,15 @@ use lib.ListN.{length, length-set, get_or, set, take, drop, get_or-append}
 use lib.Seq.{take-set-le, take-suc-set, drop-cons, get_or-append_seam, drop-length}
 use lib.Ieee.{Float}
 use Rattle.curve.specs.declared.points.Point.{Point}
-use Rattle.curve.specs.declared.units.Kw.{Kw}
 use Rattle.power.specs.declared.charger_state.ChargerState.{ChargerState}
 use Rattle.power.specs.declared.power.Limit.{Limit}
 use Rattle.power.specs.ChargerState.{is_free, draw, empty, all_free}
 use Rattle.power.specs.Power.{active, request, added, total, charge}
 use Rattle.power.specs.Code.Rounds.{any_finished, spin}
-use Rattle.power.specs.Code.Bank.{state_at, bank, vacant_at, Stored, Gaps, Cars, Gathered, moved}
+use Rattle.power.specs.Code.Bank.{state_at, bank, vacant_at, Stored, Gaps, Cars, Gathered, advanced}
 use Rattle.power.proofs.charger_state.Vacant.{free_stays, free_unfinished, free_adds, and_left, and_right, free_charge}
 use Rattle.power.proofs.power.SameCars.{same_free, same_requested, same_charged}
-use Rattle.power.proofs.power.Passes.{Change, Passed, changed, passed_none, passed_more, passed_all, total-append, any_append, length-bank}
+use Rattle.power.proofs.power.Passes.{Passed, passed_none, passed_more, passed_all, total-append, any_append, length-bank}
 use Rattle.power.proofs.power.PassTurns.{untouched}
 
 -- ---- gathering
@@ -28,11 +27,11 @@ use Rattle.power.proofs.power.PassTurns.{untouched}
 module _ (free : ℕ → Bool) where
   gaps_free : (n i : ℕ) (ps : List ℕ) → free n ≡ true → Gaps free n i ps → Gaps free (n + 1) i ps
   gaps_free n i [] e g = λ j h l. ⊎_elim (λ (q : j ≡ n). rw q e) (λ (k : j < n). g j h k) (eq-or-lt_of_le (omega arith))
-  gaps_free n i (p ∷ ps) e g = (g.0, omega arith, g.2, gaps_free n (p + 1) ps e g.3, g.4)
+  gaps_free n i (p ∷ ps) e g = (g.0, omega arith, g.2, gaps_free n (p + 1) ps e g.3)
 
-  gaps_busy : (n i : ℕ) (ps : List ℕ) → i ≤ n → free n ≡ false → Gaps free n i ps → Gaps free (n + 1) i (ps ++ (n ∷ []))
-  gaps_busy n i [] h e g = (h, omega arith, g, λ j a b. absurd (omega arith), e)
-  gaps_busy n i (p ∷ ps) h e g = (g.0, omega arith, g.2, gaps_busy n (p + 1) ps (omega arith) e g.3, g.4)
+  gaps_busy : (n i : ℕ) (ps : List ℕ) → i ≤ n → Gaps free n i ps → Gaps free (n + 1) i (ps ++ (n ∷ []))
+  gaps_busy n i [] h g = (h, omega arith, g, λ j a b. absurd (omega arith))
+  gaps_busy n i (p ∷ ps) h g = (g.0, omega arith, g.2, gaps_busy n (p + 1) ps (omega arith) g.3)
 
 module _ (F : List (List Float)) (B : List (List ℕ)) where
   pub gathered_none : (places : List ℕ) → Gathered F B 0 places 0
@@ -53,20 +52,20 @@ module _ (F : List (List Float)) (B : List (List ℕ)) where
           record {
             within = omega (arith, g.within);
             room = rw length-set (omega arith);
-            cars = rw (add-one count, take-suc-set places count n h) (record { gaps = gaps_busy (vacant_at F B) n 0 (take count places) (omega arith) e g.cars.gaps });
+            cars = rw (add-one count, take-suc-set places count n h) (record { gaps = gaps_busy (vacant_at F B) n 0 (take count places) (omega arith) g.cars.gaps });
           }
 
 -- ---- a pass over the places listed
 
 -- what was changed by f are the places below `place`, of which `So` holds; the cars from there on are at the places ps
-pub record Crossed (f : Change) (So : List ChargerState → Type 0) (n : ℕ) (ps : List ℕ) (F : List (List Float)) (B : List (List ℕ)) (F' : List (List Float)) (B' : List (List ℕ)) : Type 0 where
+pub record Crossed (f : ChargerState → ChargerState) (So : List ChargerState → Type 0) (n : ℕ) (ps : List ℕ) (F : List (List Float)) (B : List (List ℕ)) (F' : List (List Float)) (B' : List (List ℕ)) : Type 0 where
   pub place : ℕ
   pub inside : place ≤ n
   pub passed : Passed f place F B F' B'
   pub so_far : So (bank place F' B')
   pub left : Gaps (vacant_at F B) n place ps
 
-module _ (f : Change) (still : (j : ℕ) (s : ChargerState) → is_free s.status ≡ true → f j s ≡ s) (n : ℕ) (F : List (List Float)) (B : List (List ℕ)) where
+module _ (f : ChargerState → ChargerState) (still : (s : ChargerState) → is_free s.status ≡ true → f s ≡ s) (n : ℕ) (F : List (List Float)) (B : List (List ℕ)) where
   module _ (So : List ChargerState → Type 0) (same : (ss : List ChargerState) (s : ChargerState) → is_free s.status ≡ true → So ss → So (ss ++ (s ∷ []))) where
     record Over (i : ℕ) (F' : List (List Float)) (B' : List (List ℕ)) : Type 0 where
       passed : Passed f i F B F' B'
@@ -79,7 +78,7 @@ module _ (f : Change) (still : (j : ℕ) (s : ChargerState) → is_free s.status
         let e : i + suc d ≡ i + 1 + d = omega arith in
         let free : is_free (state_at F B i).status ≡ true = h i (omega arith) (omega arith) in
         let here : state_at F' B' i ≡ state_at F B i = p.rest i (omega arith) in
-        let kept : state_at F' B' i ≡ f i (state_at F' B' i) = rw here (sym (still i (state_at F B i) free)) in
+        let kept : state_at F' B' i ≡ f (state_at F' B' i) = rw here (sym (still (state_at F B i) free)) in
         rw e
         (over d (i + 1) (λ j a b. h j (omega arith) (omega arith))
         (passed_more f F B p (untouched i F' B' kept))
@@ -97,7 +96,7 @@ module _ (f : Change) (still : (j : ℕ) (s : ChargerState) → is_free s.status
     crossed_inside k busy h w = (rw (drop-cons busy k 0 h) at w.left).1
 
     pub crossed_more : (Then : List ChargerState → Type 0) (k : ℕ) (busy : List ℕ) {F' F'' : List (List Float)} {B' B'' : List (List ℕ)} → k < length busy → Crossed f So n (drop k busy) F B F' B'
-        → Stored (get_or busy k 0) (f (get_or busy k 0) (state_at F' B' (get_or busy k 0))) F' B' F'' B''
+        → Stored (get_or busy k 0) (f (state_at F' B' (get_or busy k 0))) F' B' F'' B''
         → (So (bank (get_or busy k 0) F' B') → Then (bank (get_or busy k 0 + 1) F'' B''))
         → Crossed f Then n (drop (k + 1) busy) F B F'' B''
     crossed_more Then k busy h w s next =
@@ -107,7 +106,7 @@ module _ (f : Change) (still : (j : ℕ) (s : ChargerState) → is_free s.status
         (record { place = get_or busy k 0 + 1; inside = omega arith; passed = passed_more f F B o.passed s; so_far = next o.so_far; left = g.3 })
 
     pub crossed_all : (k : ℕ) (busy : List ℕ) {F' : List (List Float)} {B' : List (List ℕ)} → k ≡ length busy → Crossed f So n (drop k busy) F B F' B'
-        → (bank n F' B' ≡ changed f n F B) × So (bank n F' B')
+        → (bank n F' B' ≡ map f (bank n F B)) × So (bank n F' B')
     crossed_all k busy h w =
         let g = rw (h, drop-length busy) at w.left in
         let o = over_to n w.place w.inside g w.passed w.so_far in
@@ -118,8 +117,8 @@ module _ (f : Change) (still : (j : ℕ) (s : ChargerState) → is_free s.status
 pub still_active : (change : ChargerState → ChargerState) (s : ChargerState) → is_free s.status ≡ true → active change s ≡ s
 still_active change s h = rw h
 
-pub still_moved : (cap : Kw) (s : ChargerState) → is_free s.status ≡ true → moved cap s ≡ s
-still_moved cap s h = rw h (free_stays s.status s h)
+pub still-advanced : (factor : Float) (s : ChargerState) → is_free s.status ≡ true → advanced factor s ≡ s
+still-advanced factor s h = rw h (free_stays s.status s h)
 
 pub sum_same : (z sum : Float) (ss : List ChargerState) (s : ChargerState) → is_free s.status ≡ true → sum ≡ total z ss → sum ≡ total z (ss ++ (s ∷ []))
 unfolding added
@@ -140,7 +139,7 @@ bank_at (suc n) j F B h =
 
 gaps_same : (free free' : ℕ → Bool) (n i : ℕ) (ps : List ℕ) → ((j : ℕ) → j < n → free' j ≡ free j) → Gaps free n i ps → Gaps free' n i ps
 gaps_same free free' n i [] e g = λ j h l. e j l ∙ g j h l
-gaps_same free free' n i (p ∷ ps) e g = (g.0, g.1, λ j h l. e j (omega arith) ∙ g.2 j h l, gaps_same free free' n (p + 1) ps e g.3, e p g.1 ∙ g.4)
+gaps_same free free' n i (p ∷ ps) e g = (g.0, g.1, λ j h l. e j (omega arith) ∙ g.2 j h l, gaps_same free free' n (p + 1) ps e g.3)
 
 module _ {n : ℕ} {ps : List ℕ} {F F' : List (List Float)} {B B' : List (List ℕ)} where
   cars_by : (ss : List ChargerState) → bank n F' B' ≡ ss → ((j : ℕ) → is_free (get_or ss j empty).status ≡ is_free (get_or (bank n F B) j empty).status)

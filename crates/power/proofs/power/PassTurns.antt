@@ -5,13 +5,12 @@ use mathlib.Core.List.{List}
 use Prim.Native.Nat.{ℕ}
 use lib.Ieee.{Float}
 use Rattle.curve.specs.declared.points.Point.{Point}
-use Rattle.curve.specs.declared.units.Kw.{Kw}
 use Rattle.power.specs.declared.charger_state.ChargerState.{ChargerState}
 use Rattle.power.specs.ChargerState.{is_free, with_cap, progress}
-use Rattle.power.specs.Power.{request, added}
+use Rattle.power.specs.Power.{request, added, cap_of}
 use Rattle.power.specs.Code.Rounds.{or_finished}
 use Rattle.power.proofs.charger_state.Vacant.{free_stays, free_unfinished, free_adds}
-use Rattle.power.specs.Code.Bank.{state_at, Stored, Requested, moved, Moved}
+use Rattle.power.specs.Code.Bank.{state_at, Stored, Requested, advanced, Advanced}
 
 pub untouched : (i : ℕ) (F : List (List Float)) (B : List (List ℕ)) {s : ChargerState} → state_at F B i ≡ s → Stored i s F B F B
 untouched i F B e = record { same = e; other = λ j ne. refl }
@@ -26,13 +25,16 @@ module _ (i : ℕ) (F : List (List Float)) (B : List (List ℕ)) where
         → Requested curve i sum F B F' B' (added sum (request curve (state_at F B i)))
     requested h s = record { state = rw h s; sum_now = rw h }
 
-  module _ (cap : Kw) (any : Bool) where
-    pub no_move : is_free (state_at F B i).status ≡ true → Moved cap i any F B F B any
-    no_move h =
-        let kept : moved cap (state_at F B i) ≡ state_at F B i = rw h (free_stays (state_at F B i).status (state_at F B i) h) in
+  module _ (factor : Float) (any : Bool) where
+    pub no-advance : is_free (state_at F B i).status ≡ true → Advanced factor i any F B F B any
+    no-advance h =
+        let kept : advanced factor (state_at F B i) ≡ state_at F B i = rw h (free_stays (state_at F B i).status (state_at F B i) h) in
         record { state = untouched i F B (sym kept); any_now = rw kept (rw free_unfinished) }
 
     -- with its cap, and a round further
-    pub moves : {F' : List (List Float)} {B' : List (List ℕ)} {r : Bool} → is_free (state_at F B i).status ≡ false → Stored i (progress (with_cap cap (state_at F B i))) F B F' B'
-        → r ≡ or_finished any (progress (with_cap cap (state_at F B i))) → Moved cap i any F B F' B' r
-    moves h s e = record { state = rw h s; any_now = rw h e }
+    abbrev moved : ChargerState → ChargerState
+    moved s = progress (with_cap (cap_of factor s) s)
+
+    pub advances : {F' : List (List Float)} {B' : List (List ℕ)} {r : Bool} → is_free (state_at F B i).status ≡ false → Stored i (moved (state_at F B i)) F B F' B'
+        → r ≡ or_finished any (moved (state_at F B i)) → Advanced factor i any F B F' B' r
+    advances h s e = record { state = rw h s; any_now = rw h e }

@@ -1,4 +1,4 @@
--- A pass over the bank: one charger after another is changed by f, which knows the charger's place.
+-- A pass over the bank: one charger after another is changed by f.
 use mathlib.Core.Path.{◌≡◌, refl, ap, ◌∙◌}
 use mathlib.Core.Logic.{⊎_elim}
 use mathlib.Core.Bool.{Bool, false}
@@ -12,57 +12,39 @@ use lib.Seq.{set_at, set-append_left}
 use lib.Ieee.{Float}
 use Rattle.curve.specs.F64.{ratio}
 use Rattle.curve.specs.declared.points.Point.{Point}
-use Rattle.curve.specs.declared.units.Kw.{Kw}
-use Rattle.shares.specs.Watts.{watts_of}
-use Rattle.shares.specs.Shares.{shares}
 use Rattle.power.specs.declared.charger_state.ChargerState.{ChargerState}
 use Rattle.power.specs.declared.power.Limit.{Limit}
 use Rattle.power.specs.ChargerState.{progress}
-use Rattle.power.specs.declared.power.Limit.TheVariants.{Unlimited, AtMost, Shared}
-use Rattle.power.specs.Power.{active, request, added, total, scaling, cap_of, scaled_caps, watts_asked, cap_of_share, even_caps, caps, with_caps, allocate, charge}
+use Rattle.power.specs.Power.{active, request, added, total, scaling, cap_of, caps, with_caps, allocate, charge}
 use Rattle.power.specs.Code.Rounds.{or_finished, any_finished}
-use Rattle.power.specs.Code.Bank.{state_at, bank, Stored, Requested, advanced, Moved}
-
--- a change, by place
-abbrev pub Change : Type 0
-Change = ℕ → ChargerState → ChargerState
+use Rattle.power.specs.Code.Bank.{state_at, bank, Stored, Requested, advanced, Advanced}
 
 -- the states below i were changed by f, the others not yet
-pub record Passed (f : Change) (i : ℕ) (F : List (List Float)) (B : List (List ℕ)) (F' : List (List Float)) (B' : List (List ℕ)) : Type 0 where
-  pub done : (j : ℕ) → j < i → state_at F' B' j ≡ f j (state_at F B j)
+pub record Passed (f : ChargerState → ChargerState) (i : ℕ) (F : List (List Float)) (B : List (List ℕ)) (F' : List (List Float)) (B' : List (List ℕ)) : Type 0 where
+  pub done : (j : ℕ) → j < i → state_at F' B' j ≡ f (state_at F B j)
   pub rest : (j : ℕ) → i ≤ j → state_at F' B' j ≡ state_at F B j
 
--- the states of the first n chargers, each changed
-abbrev pub changed : Change → ℕ → List (List Float) → List (List ℕ) → List ChargerState
-changed f zero F B = []
-changed f (suc n) F B = changed f n F B ++ (f n (state_at F B n) ∷ [])
-
--- where the change is the same at all places
-pub changed_alike : (change : ChargerState → ChargerState) (n : ℕ) (F : List (List Float)) (B : List (List ℕ)) → changed (λ j. change) n F B ≡ map change (bank n F B)
-changed_alike change zero F B = refl
-changed_alike change (suc n) F B = rw (map-append, changed_alike change n F B)
-
-module _ (f : Change) (F : List (List Float)) (B : List (List ℕ)) where
+module _ (f : ChargerState → ChargerState) (F : List (List Float)) (B : List (List ℕ)) where
   pub passed_none : Passed f 0 F B F B
   passed_none = record { done = λ j h. absurd (omega arith); rest = λ j h. refl }
 
-  pub passed_more : {i : ℕ} {F' F'' : List (List Float)} {B' B'' : List (List ℕ)} → Passed f i F B F' B' → Stored i (f i (state_at F' B' i)) F' B' F'' B'' → Passed f (i + 1) F B F'' B''
+  pub passed_more : {i : ℕ} {F' F'' : List (List Float)} {B' B'' : List (List ℕ)} → Passed f i F B F' B' → Stored i (f (state_at F' B' i)) F' B' F'' B'' → Passed f (i + 1) F B F'' B''
   passed_more {i} p s =
       record {
         done = λ j h.
             ⊎_elim
-            (λ (e : j ≡ i). rw e (s.same ∙ ap (f i) (p.rest i (omega arith))))
+            (λ (e : j ≡ i). rw e (s.same ∙ ap f (p.rest i (omega arith))))
             (λ (l : j < i). s.other j (λ e. omega arith) ∙ p.done j l)
             (eq-or-lt_of_le (omega arith));
         rest = λ j h. s.other j (λ e. omega arith) ∙ p.rest j (omega arith);
       }
 
-  pub passed_all : (n : ℕ) {F' : List (List Float)} {B' : List (List ℕ)} → Passed f n F B F' B' → bank n F' B' ≡ changed f n F B
+  pub passed_all : (n : ℕ) {F' : List (List Float)} {B' : List (List ℕ)} → Passed f n F B F' B' → bank n F' B' ≡ map f (bank n F B)
   passed_all n {F'} {B'} p = go n (omega arith)
     where
-      go : (m : ℕ) → m ≤ n → bank m F' B' ≡ changed f m F B
+      go : (m : ℕ) → m ≤ n → bank m F' B' ≡ map f (bank m F B)
       go zero h = refl
-      go (suc m) h = rw (go m (omega arith), p.done m (omega arith))
+      go (suc m) h = rw (map-append, go m (omega arith), p.done m (omega arith))
 
 pub total-append : (sum : Float) (ss xs : List ChargerState) → total sum (ss ++ xs) ≡ total (total sum ss) xs
 total-append sum [] xs = refl
@@ -84,41 +66,20 @@ pub sum_more : (curve : ℕ → List Point) (z : Float) {i : ℕ} {sum r : Float
     → Requested curve i sum F B F' B' r → sum ≡ total z (bank i F B) → r ≡ total z (bank (i + 1) F' B')
 sum_more curve z {i} {F = F} {B = B} w e = rw (bank_more w.state, total-append z (bank i F B), ← e) w.sum_now
 
-pub any_more : (cap : Kw) {i : ℕ} {any r : Bool} {F F' : List (List Float)} {B B' : List (List ℕ)}
-    → Moved cap i any F B F' B' r → any ≡ any_finished false (bank i F B) → r ≡ any_finished false (bank (i + 1) F' B')
-any_more cap {i} {F = F} {B = B} w e = rw (bank_more w.state, any_append false (bank i F B), ← e) w.any_now
+pub any_more : (factor : Float) {i : ℕ} {any r : Bool} {F F' : List (List Float)} {B B' : List (List ℕ)}
+    → Advanced factor i any F B F' B' r → any ≡ any_finished false (bank i F B) → r ≡ any_finished false (bank (i + 1) F' B')
+any_more factor {i} {F = F} {B = B} w e = rw (bank_more w.state, any_append false (bank i F B), ← e) w.any_now
 
 -- both passes are a round of power and progress
 advanced_all : (factor : Float) (ss : List ChargerState) → map (advanced factor) ss ≡ map progress (with_caps (map (cap_of factor) ss) ss)
 advanced_all factor [] = refl
 advanced_all factor (s ∷ ss) = rw (advanced_all factor ss)
 
--- the caps of a limit that scales
-abbrev pub Scales : Limit → Type 0
-Scales limit = (ss : List ChargerState) → caps limit ss ≡ scaled_caps limit ss
-
-pub scales_none : {limit : Limit} → limit ≡ Unlimited → Scales limit
-unfolding caps
-scales_none e ss = rw e
-
-pub scales_at_most : {limit : Limit} {kw : Kw} → limit ≡ AtMost kw → Scales limit
-unfolding caps
-scales_at_most e ss = rw e
-
-pub both : (limit : Limit) (curve : ℕ → List Point) (ss : List ChargerState) {asked after : List ChargerState} {sum factor : Float} → Scales limit
+pub both : (limit : Limit) (curve : ℕ → List Point) (ss : List ChargerState) {asked after : List ChargerState} {sum factor : Float}
     → asked ≡ map (active (request curve)) ss → sum ≡ total (ratio 0 1) asked → factor ≡ scaling limit sum → after ≡ map (advanced factor) asked
     → after ≡ charge limit curve ss
-unfolding allocate
-both limit curve ss {asked} {sum = sum} {factor = factor} scales a s f m =
-    let by-factor : map (advanced factor) asked ≡ map progress (with_caps (scaled_caps limit asked) asked) = unfold scaled_caps in rw (advanced_all factor asked, f, s) in
-    m ∙ by-factor ∙ rw (← scales asked, a)
-
--- or by even shares
-pub both_shared : (limit : Limit) (kw : Kw) (curve : ℕ → List Point) (ss : List ChargerState) {asked after : List ChargerState} → limit ≡ Shared kw
-    → asked ≡ map (active (request curve)) ss → after ≡ map progress (with_caps (map cap_of_share (shares (map watts_asked asked) (watts_of kw.0))) asked)
-    → after ≡ charge limit curve ss
-unfolding allocate caps even_caps
-both_shared limit kw curve ss {asked} e a m = rw (m, e, a)
+unfolding allocate caps
+both limit curve ss {asked} {sum = sum} {factor = factor} a s f m = rw (m, advanced_all factor asked, f, s, a)
 
 pub length-bank : (n : ℕ) (F : List (List Float)) (B : List (List ℕ)) → length (bank n F B) ≡ n
 length-bank zero F B = refl

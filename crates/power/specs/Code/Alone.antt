@@ -1,34 +1,16 @@
 -- Refinement: one car alone at the site, whose round needs no pass over the other chargers.
-use Rattle.std.specs.Prelude.{◌≡◌, true, min}
-use Rattle.shares.specs.Watts.{watts_of}
+use Rattle.std.specs.Prelude.{◌≡◌, true}
 use Rattle.curve.specs.F64.{ratio}
 use Rattle.curve.specs.declared.units.Kw.{Kw}
 use Rattle.power.specs.declared.charger_state.ChargerState.{ChargerState}
 use Rattle.power.specs.declared.power.Limit.{Limit}
-use Rattle.power.specs.declared.power.Limit.TheVariants.{Unlimited, AtMost, Shared}
 use Rattle.power.specs.ChargerState.{is_charging, with_request, with_cap, progress}
-use Rattle.power.specs.Power.{added, scaling, cap_of, watts_asked, cap_of_share}
+use Rattle.power.specs.Power.{added, scaling, cap_of}
 
--- the cap of a car that is alone: scaled by its own draw, or its whole watts as far as the limit goes
-unfoldable pub scaled_alone : Limit → ChargerState → Kw
-unfolding added scaling cap_of
-scaled_alone limit s = cap_of (scaling limit (added (ratio 0 1) s)) s
-
-unfoldable pub share_alone : Kw → ChargerState → Kw
-unfolding watts_asked cap_of_share watts_of
-share_alone limit s = cap_of_share (min (watts_asked s) (watts_of limit.0))
-
+-- the cap of a car that is alone
 unfoldable pub cap_alone : Limit → ChargerState → Kw
-unfolding scaled_alone share_alone
-cap_alone Unlimited s = scaled_alone Unlimited s
-cap_alone (AtMost limit) s = scaled_alone (AtMost limit) s
-cap_alone (Shared limit) s = share_alone limit s
-
--- the round of a car that asks for `power`, where it is scaled
-abbrev pub scaled_round : Limit → Kw → ChargerState → ChargerState
-scaled_round limit power s =
-    let asked = with_request power s in
-    progress (with_cap (scaled_alone limit asked) asked)
+unfolding added scaling cap_of
+cap_alone limit s = cap_of (scaling limit (added (ratio 0 1) s)) s
 
 -- the round of a car that asks for `power`
 abbrev pub round_alone : Limit → Kw → ChargerState → ChargerState

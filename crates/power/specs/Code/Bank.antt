@@ -1,10 +1,9 @@
 -- Refinement: the bank, the states of all chargers in lent slices.
-use Rattle.std.specs.Prelude.{◌≡◌, Bool, true, false, cond, List, [], ◌∷◌, ◌++◌, ◌≢◌, ℕ, zero, suc, ◌+◌, ◌≤◌, ◌<◌, eqb, length, get_or, take, Float}
+use Rattle.std.specs.Prelude.{◌≡◌, Bool, true, cond, List, [], ◌∷◌, ◌++◌, ◌≢◌, ℕ, zero, suc, ◌+◌, ◌≤◌, ◌<◌, eqb, length, get_or, take, Float}
 use Rattle.std.specs.Float.{nan}
 use Rattle.std.specs.Float.Ieee.{le}
 use Rattle.curve.specs.Code.Rising.{Rises}
 use Rattle.curve.specs.declared.points.Point.{Point}
-use Rattle.curve.specs.declared.units.Kw.{Kw}
 use Rattle.charger.specs.Code.Profiles.{curve_at}
 use Rattle.power.specs.declared.charger_state.Status.{Status}
 use Rattle.power.specs.declared.charger_state.Status.TheVariants.{Free, Charging, Idle, Finished}
@@ -70,10 +69,10 @@ pub record Stored (i : ℕ) (s : ChargerState) (floats : List (List Float)) (byt
 abbrev pub vacant_at : List (List Float) → List (List ℕ) → ℕ → Bool
 vacant_at floats bytes i = is_free (state_at floats bytes i).status
 
--- of the places from i up to n just those listed, which rise, are not free
+-- the places from i up to n are free, but for those listed, which rise
 abbrev pub Gaps : (ℕ → Bool) → ℕ → ℕ → List ℕ → Type 0
 Gaps free n i [] = (j : ℕ) → i ≤ j → j < n → free j ≡ true
-Gaps free n i (p ∷ ps) = (i ≤ p) × (p < n) × ((j : ℕ) → i ≤ j → j < p → free j ≡ true) × Gaps free n (p + 1) ps × (free p ≡ false)
+Gaps free n i (p ∷ ps) = (i ≤ p) × (p < n) × ((j : ℕ) → i ≤ j → j < p → free j ≡ true) × Gaps free n (p + 1) ps
 
 -- the cars among the first n chargers are at the places listed
 pub record Cars (floats : List (List Float)) (bytes : List (List ℕ)) (n : ℕ) (places : List ℕ) : Type 0 where
@@ -91,17 +90,13 @@ pub record Requested (curve : ℕ → List Point) (i : ℕ) (sum : Float) (float
   pub sum_now : r ≡ added sum (active (request curve) (state_at floats bytes i))
 
 -- the cap and the progress of one charger
-abbrev pub moved : Kw → ChargerState → ChargerState
-moved cap s = progress (active (with_cap cap) s)
-
--- by the one factor
 abbrev pub advanced : Float → ChargerState → ChargerState
-advanced factor s = moved (cap_of factor s) s
+advanced factor s = progress (active (with_cap (cap_of factor s)) s)
 
 -- one charger's turn in the second pass
-pub record Moved (cap : Kw) (i : ℕ) (any : Bool) (floats : List (List Float)) (bytes : List (List ℕ)) (floats' : List (List Float)) (bytes' : List (List ℕ)) (r : Bool) : Type 0 where
-  pub state : Stored i (moved cap (state_at floats bytes i)) floats bytes floats' bytes'
-  pub any_now : r ≡ or_finished any (moved cap (state_at floats bytes i))
+pub record Advanced (factor : Float) (i : ℕ) (any : Bool) (floats : List (List Float)) (bytes : List (List ℕ)) (floats' : List (List Float)) (bytes' : List (List ℕ)) (r : Bool) : Type 0 where
+  pub state : Stored i (advanced factor (state_at floats bytes i)) floats bytes floats' bytes'
+  pub any_now : r ≡ or_finished any (advanced factor (state_at floats bytes i))
 
 -- what `charge_until` answers, with the states that it leaves
 abbrev pub spun : List ChargerState → D.Spun → Spun

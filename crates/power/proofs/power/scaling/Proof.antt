@@ -12,9 +12,6 @@ enum_told c = search rules
 enum-known-limit : tie.Need-enum-known-limit
 enum-known-limit c = search rules
 
-enum-told-2 : tie.Need-enum-told-2
-enum-told-2 c = search rules
-
 returns : tie.Need-returns
 unfolding scaling ratio of_bits
 returns c = simp c.enum_told.given.1
@@ -27,9 +24,5 @@ returns-3 : tie.Need-returns-3
 unfolding scaling ratio of_bits
 returns-3 c = simp (c.before.before.before.limit.given.1, c.if1.false)
 
-returns-4 : tie.Need-returns-4
-unfolding scaling ratio of_bits
-returns-4 c = simp c.enum-told2.given.1
-
 pub scaling-spec : {M : Type 1} → statement M
-scaling-spec = tie.close (tie.spec enum_told enum-known-limit enum-told-2 returns returns-2 returns-3 returns-4)
+scaling-spec = tie.close (tie.spec enum_told enum-known-limit returns returns-2 returns-3)

@@ -1,4 +1,0 @@
-pub mod AmongFree
-pub mod Listing
-pub mod Deals
-pub mod Evenly
