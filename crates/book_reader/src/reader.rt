@@ -12,7 +12,7 @@ use plan::answer::{Answer, Refusal};
 use plan::bytes::{u8_at, u16_at, u64_at};
 
 // What a book's header says.
-#[derive(Drop)]
+#[derive(Clone, Copy)]
 pub struct BookHeader {
     pub count: usize,
     pub engine: u8,
@@ -20,14 +20,14 @@ pub struct BookHeader {
     pub used: u64,
 }
 
-#[derive(Drop)]
+#[derive(Clone, Copy)]
 pub enum BookAnswer {
     Refused(Refusal),
     Read(BookHeader),
 }
 
 // The answer, and beside it the sessions: the first `count` of the array.
-#[derive(Drop)]
+#[derive(Clone, Copy)]
 pub struct ReadBook {
     pub answer: BookAnswer,
     pub sessions: [BookSession; 64],

@@ -11,7 +11,7 @@ use files::book_session::{BookSession, charged};
 use plan::answer::{Refusal, flag};
 
 // How many sessions are open, charged, reneged and balked, the energy of the charged ones, and the longest wait.
-#[derive(Drop)]
+#[derive(Clone, Copy)]
 pub struct BookTotals {
     pub still_open: u64,
     pub charged: u64,
@@ -21,7 +21,7 @@ pub struct BookTotals {
     pub longest_wait: u64,
 }
 
-#[derive(Drop)]
+#[derive(Clone, Copy)]
 pub enum TotalsAnswer {
     Refused(Refusal),
     Summed(BookTotals),

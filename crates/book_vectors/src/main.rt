@@ -1,6 +1,8 @@
 // Replays recorded calls of the book's reader. Standard input holds them, each as changes to the book that the one before left; standard
 // output has for each the call's eleven numbers and digests of the header's numbers and of the sessions'. The record: a 32-bit number of calls;
 // for each a 32-bit length of the book that is lent, and the changes.
+#![tactic(auto)]
+
 use book_reader::numbers::read_numbers;
 use libc::{STDERR_FILENO, STDIN_FILENO, STDOUT_FILENO};
 use recorded::{answer_bytes, at_most, change, mixed, u16_at};

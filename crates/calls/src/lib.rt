@@ -1,4 +1,6 @@
 // The calls for C and Rust. A slice is a pointer and a length; the eleven numbers go to an array of the caller's.
+#![tactic(auto)]
+
 mod bookings;
 mod books;
 mod dumps;

@@ -10,7 +10,7 @@ use curve::float::min;
 use curve::units::{Amperes, Kw, Volts};
 
 // `caps` has for each connector code, from 1, the most that its lead carries; 0 A means no cap.
-#[derive(Drop)]
+#[derive(Clone, Copy)]
 pub struct Charger {
     pub max_power: Kw,
     pub current: Amperes,
@@ -19,13 +19,13 @@ pub struct Charger {
 }
 
 // A connector that a charger and a vehicle can use, by its code, and the current that its lead carries.
-#[derive(Drop)]
+#[derive(Clone, Copy)]
 pub struct Lead {
     pub code: u8,
     pub current: Amperes,
 }
 
-#[derive(Drop)]
+#[derive(Clone, Copy)]
 pub enum Resolved {
     Connector(Lead),
     Nothing,

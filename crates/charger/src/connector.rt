@@ -3,7 +3,7 @@ ghost use Rattle.std.specs.Prelude.{◌≡◌, take};
 ghost use Rattle.charger.specs.Connector.{has_code, common, contains, row_of, codes_of, named_connectors};
 
 // The first of the vehicle's codes that the charger has.
-#[derive(Drop)]
+#[derive(Clone, Copy)]
 pub enum Common {
     Connector(u8),
     Nothing,
@@ -41,7 +41,7 @@ pub fn common_connector(row: [bool; 5], codes: [u8; 5], count: usize) -> Common
 }
 
 // A vehicle's connectors, in its order of preference: the first `count` codes.
-#[derive(Drop)]
+#[derive(Clone, Copy)]
 pub struct Connectors {
     pub codes: [u8; 5],
     pub count: usize,

@@ -1,4 +1,6 @@
 // Connectors, chargers, vehicles, their lists and the waiting queue.
+#![tactic(auto)]
+
 pub mod charge_profile_list;
 pub mod charger;
 pub mod connector;

@@ -7,7 +7,7 @@ use curve::units::Seconds;
 
 // `profile` is its charge profile's place in the plan. Its connectors, in its order of preference, are the first `count` codes.
 // Fleet 0 is none. It stands behind the codes, where it takes no room of its own.
-#[derive(Drop)]
+#[derive(Clone, Copy)]
 pub struct Vehicle {
     pub profile: usize,
     pub codes: [u8; 5],

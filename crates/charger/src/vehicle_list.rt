@@ -7,7 +7,7 @@ ghost use Rattle.charger.specs.Code.Vehicles.{listed};
 use crate::vehicle::{Vehicle, no_vehicle};
 
 // The first `len` of `all`, and the queue places of fleets 1 to 64.
-#[derive(Drop)]
+#[derive(Clone, Copy)]
 pub struct VehicleList {
     pub all: [Vehicle; 64],
     pub len: usize,

@@ -11,14 +11,14 @@ use crate::vehicle::fits;
 use crate::vehicle_list::VehicleList;
 
 // By their places in the plan, first in, first out: the first `len` of `ids`.
-#[derive(Drop)]
+#[derive(Clone, Copy)]
 pub struct WaitingQueue {
     pub ids: [usize; 64],
     pub len: usize,
 }
 
 // What was taken out of a queue, if anything was, and the queue that is left.
-#[derive(Drop)]
+#[derive(Clone, Copy)]
 pub struct Popped {
     pub found: bool,
     pub id: usize,

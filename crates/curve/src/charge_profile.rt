@@ -11,7 +11,7 @@ use crate::points::{Point, point_at, reached_by_points, reached_from, reached_ne
 use crate::units::{Kw, Kwh, Seconds};
 
 // What charging takes: seconds, energy, and the largest average power of a segment.
-#[derive(Drop)]
+#[derive(Clone, Copy)]
 pub struct ChargingOutput {
     pub duration: Seconds,
     pub energy: Kwh,
@@ -19,21 +19,21 @@ pub struct ChargingOutput {
 }
 
 // The SOC reached, and what it took to get there.
-#[derive(Drop)]
+#[derive(Clone, Copy)]
 pub struct Charge {
     pub soc: f64,
     pub output: ChargingOutput,
 }
 
 // Where a SOC lies on a curve: how many points, from the first, are at or below it, and the power there.
-#[derive(Drop)]
+#[derive(Clone, Copy)]
 pub struct Place {
     pub reached: usize,
     pub power: Kw,
 }
 
 // A charge on its way along a curve, with the place of the SOC reached.
-#[derive(Drop)]
+#[derive(Clone, Copy)]
 pub struct Walk {
     pub charge: Charge,
     pub place: Place,

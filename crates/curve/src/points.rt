@@ -9,7 +9,7 @@ ghost use Rattle.curve.specs.Code.Rising.{Rises};
 use crate::units::Kw;
 
 // A point of the curve.
-#[derive(Drop)]
+#[derive(Clone, Copy)]
 pub struct Point {
     pub soc: f64,
     pub power: Kw,

@@ -1,16 +1,16 @@
 // Numbers with their unit, so that no call confuses one with another.
 
-#[derive(Drop)]
+#[derive(Clone, Copy)]
 pub struct Kw(pub f64);
 
-#[derive(Drop)]
+#[derive(Clone, Copy)]
 pub struct Kwh(pub f64);
 
-#[derive(Drop)]
+#[derive(Clone, Copy)]
 pub struct Seconds(pub f64);
 
-#[derive(Drop)]
+#[derive(Clone, Copy)]
 pub struct Amperes(pub f64);
 
-#[derive(Drop)]
+#[derive(Clone, Copy)]
 pub struct Volts(pub f64);

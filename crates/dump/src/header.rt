@@ -16,7 +16,7 @@ use plan::bytes::{put, put_fields};
 use plan::places::{Kind, place_of};
 
 // The counts of a dump, and the events handled.
-#[derive(Drop)]
+#[derive(Clone, Copy)]
 pub struct Counts {
     pub queued: u64,
     pub busy: u64,
@@ -26,7 +26,7 @@ pub struct Counts {
 }
 
 // The busy chargers' blocks, each with its vehicle's: the first 2 × `count` of `blocks`.
-#[derive(Drop)]
+#[derive(Clone, Copy)]
 pub struct Busy {
     pub blocks: [u64; 64],
     pub count: usize,

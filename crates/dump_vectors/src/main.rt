@@ -2,6 +2,8 @@
 // one before left; standard output has for each the call's eleven numbers and a digest of each buffer that a call can write to. The record: a 32-bit
 // number of calls; for each a byte, 0 for dump, 1 for continue and 2 for late booking, five 32-bit numbers (engine, or the length of the car that is lent;
 // allowance or further events; the lengths of book, or new dump, of dump and of plan that are lent), and the changes of plan, of dump and of car.
+#![tactic(auto)]
+
 use dump::call;
 use dump::resume::resume;
 use late_booking::late::book_late;
@@ -11,7 +13,7 @@ use plan::bytes::put;
 use recorded::{answer_bytes, at_most, byte_at, change, mixed, u16_at, u32_at};
 
 // Of a call: 0 for dump, 1 for continue and 2 for late booking, its numbers, and the lengths of what is lent.
-#[derive(Drop)]
+#[derive(Clone, Copy)]
 struct Call {
     kind: usize,
     engine: u32,

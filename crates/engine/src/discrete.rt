@@ -25,14 +25,14 @@ use curve::units::Seconds;
 
 // Who stands at each charger, beside the rest of the site's state: 0 for nobody, else one more than the vehicle's place in
 // the plan. The events handled are those before the queue's head.
-#[derive(Drop)]
+#[derive(Clone, Copy)]
 pub struct State {
     pub simulation: Simulation,
     pub places: [u8; 32],
 }
 
 // What becomes of a vehicle: nothing that is written down, a charger that it takes, or a session without charge.
-#[derive(Drop)]
+#[derive(Clone, Copy)]
 pub enum Action {
     Nothing,
     PlugsIn(usize, usize),
@@ -40,7 +40,7 @@ pub enum Action {
 }
 
 // What an event does: the queue and the chargers' places that it leaves, and then the action.
-#[derive(Drop)]
+#[derive(Clone, Copy)]
 pub struct Effect {
     pub queue: WaitingQueue,
     pub places: [u8; 32],

@@ -7,7 +7,7 @@ ghost use Rattle.engine.specs.Code.Simulation.{pending, behind_first, event_of, 
 
 use charger::vehicle_list::VehicleList;
 
-#[derive(Drop)]
+#[derive(Clone, Copy)]
 pub enum EventType {
     Arrival,
     Renege,
@@ -15,7 +15,7 @@ pub enum EventType {
 }
 
 // `charger` is 0 where the event is no unplug.
-#[derive(Drop)]
+#[derive(Clone, Copy)]
 pub struct Event {
     pub time: u64,
     pub kind: EventType,
@@ -25,7 +25,7 @@ pub struct Event {
 
 // The pending events, in the order in which they pop: those from `head` up to `tail`. Those before `head` have been handled.
 // A plan of 64 vehicles has at most 192 events.
-#[derive(Drop)]
+#[derive(Clone, Copy)]
 pub struct EventQueue {
     pub all: [Event; 192],
     pub head: usize,

@@ -1,4 +1,6 @@
 // Both engines (events.rs, session.rs, evse/site.rs, simulation/).
+#![tactic(auto)]
+
 pub mod discrete;
 pub mod events;
 pub mod plug_in;

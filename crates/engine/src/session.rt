@@ -5,7 +5,7 @@ ghost use Rattle.engine.specs.Code.Simulation.{booked};
 
 use curve::units::{Kw, Kwh, Seconds};
 
-#[derive(Drop)]
+#[derive(Clone, Copy)]
 pub enum Outcome {
     Open,
     Charged,
@@ -14,7 +14,7 @@ pub enum Outcome {
 }
 
 // Vehicle and charger by their places in the plan; what is missing by its outcome is 0.
-#[derive(Drop)]
+#[derive(Clone, Copy)]
 pub struct Session {
     pub vehicle: usize,
     pub outcome: Outcome,
@@ -29,7 +29,7 @@ pub struct Session {
 }
 
 // The sessions, in the order pushed: the first `len` of `all`.
-#[derive(Drop)]
+#[derive(Clone, Copy)]
 pub struct Sessions {
     pub all: [Session; 64],
     pub len: usize,

@@ -24,7 +24,7 @@ use curve::units::{Kw, Kwh};
 use power::power::Limit;
 
 // What the engines read of a plan, but for its connectors and curves: the first `count` of `chargers`, and the battery of each profile.
-#[derive(Drop)]
+#[derive(Clone, Copy)]
 pub struct Site {
     pub vehicles: VehicleList,
     pub chargers: [Charger; 32],
@@ -34,7 +34,7 @@ pub struct Site {
 }
 
 // The state of a site but for what stands at its chargers.
-#[derive(Drop)]
+#[derive(Clone, Copy)]
 pub struct Simulation {
     pub events: EventQueue,
     pub queue: WaitingQueue,
@@ -42,14 +42,14 @@ pub struct Simulation {
 }
 
 // What is written down of a vehicle that takes no charger: nothing, or its session.
-#[derive(Drop)]
+#[derive(Clone, Copy)]
 pub enum Written {
     Nothing,
     Books(Session),
 }
 
 // What becomes of the queue at an event that gives nobody a charger, and what is written down.
-#[derive(Drop)]
+#[derive(Clone, Copy)]
 pub struct QueueChange {
     pub queue: WaitingQueue,
     pub written: Written,

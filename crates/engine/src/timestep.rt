@@ -68,7 +68,7 @@ fn next_time(simulation: Simulation, last: u64) -> u64
 }
 
 // Where a turn of the run's loop comes to.
-#[derive(Drop)]
+#[derive(Clone, Copy)]
 struct Reached {
     simulation: Simulation,
     time: u64,
@@ -142,7 +142,7 @@ fn turn(
 }
 
 // The state of a run after the units up to `time`, with the bank, and whether it has ended. A run can go on from it.
-#[derive(Drop)]
+#[derive(Clone, Copy)]
 pub struct StepRun {
     pub simulation: Simulation,
     pub time: u64,

@@ -19,7 +19,7 @@ use plan::bytes::u32_at;
 use plan::places::{Kind, block_of, charger_count, vehicle_count};
 
 // A session as the book holds it, floats by their bits; what is missing by its outcome is 0.
-#[derive(Drop)]
+#[derive(Clone, Copy)]
 pub struct BookSession {
     pub vehicle_id: u32,
     pub profile_id: u32,

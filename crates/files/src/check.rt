@@ -29,7 +29,7 @@ pub fn pair_answer(plan: &[u8], pair: FailingPair) -> Answer
 }
 
 // A plan that was read, but for the connectors of its chargers and its curves, and what its pairs are answered.
-#[derive(Drop)]
+#[derive(Clone, Copy)]
 pub struct Reading {
     pub site: Site,
     pub answer: Answer,

@@ -1,4 +1,6 @@
 // The files and the two calls: the plan read into site data, the pairs that cannot charge, the book, check and run.
+#![tactic(auto)]
+
 mod book;
 pub mod book_session;
 pub mod call;

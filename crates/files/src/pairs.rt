@@ -14,7 +14,7 @@ use curve::units::Kwh;
 use engine::site::{Site, battery_of};
 
 // The places of a vehicle and of a charger, each among its kind.
-#[derive(Drop)]
+#[derive(Clone, Copy)]
 pub enum FailingPair {
     Nothing,
     Pair(usize, usize),

@@ -22,7 +22,7 @@ use engine::{discrete, timestep};
 use plan::answer::{Totals, flag};
 
 // A run at its stop.
-#[derive(Drop)]
+#[derive(Clone, Copy)]
 pub struct Ran {
     pub sessions: Sessions,
     pub totals: Totals,

@@ -39,7 +39,7 @@ fn first_time(events: EventQueue) -> u64
 }
 
 // A run that has reached a handled count, and whether an arrival lies after the last event handled.
-#[derive(Drop)]
+#[derive(Clone, Copy)]
 struct Reached {
     state: State,
     later: bool,

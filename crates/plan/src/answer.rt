@@ -5,7 +5,7 @@ ghost use Rattle.charger.specs.Lists.{tick};
 ghost use Rattle.plan.specs.Answer.{rule_number, number as Answer·number, place as Answer·place, other_place, refused as Answer·refused, refusal_numbers, check_numbers, numbers};
 
 // What a plan's blocks are refused for, in number order from 4.
-#[derive(Drop)]
+#[derive(Clone, Copy)]
 pub enum Rule {
     Length,
     Check,
@@ -20,7 +20,7 @@ pub enum Rule {
 // Why a call is refused, in number order: the engine, the allowance, a book that is too short; a rule refuses a block, by its
 // place in the file; a vehicle's block and a charger's cannot charge; a dump that is too short, or not one of the plan; a book
 // whose blocks are damaged, or that is against the rules; a car for which there is no place, or that comes too early to be booked late.
-#[derive(Drop)]
+#[derive(Clone, Copy)]
 pub enum Refusal {
     EngineAbove,
     AllowanceAbove,
@@ -36,14 +36,14 @@ pub enum Refusal {
 }
 
 // What a check answers.
-#[derive(Drop)]
+#[derive(Clone, Copy)]
 pub enum Answer {
     Fine,
     Refused(Refusal),
 }
 
 // Units used, ended, and how many vehicles are yet to arrive and queued; how many sessions are open, charged, reneged, balked.
-#[derive(Drop)]
+#[derive(Clone, Copy)]
 pub struct Totals {
     pub used: u64,
     pub ended: bool,
@@ -56,7 +56,7 @@ pub struct Totals {
 }
 
 // What a run answers.
-#[derive(Drop)]
+#[derive(Clone, Copy)]
 pub enum RunAnswer {
     Refused(Refusal),
     Stopped(Totals),

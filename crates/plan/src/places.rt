@@ -6,7 +6,7 @@ use crate::blocks::block;
 use crate::bytes::u16_at;
 
 // The kinds of blocks, in the plan's order.
-#[derive(Drop)]
+#[derive(Clone, Copy)]
 pub enum Kind {
     Header,
     Profile,

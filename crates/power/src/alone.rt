@@ -16,7 +16,7 @@ use curve::float::same;
 use curve::units::Kw;
 
 // A car's state after some rounds.
-#[derive(Drop)]
+#[derive(Clone, Copy)]
 struct Alone {
     state: ChargerState,
     spun: Spun,

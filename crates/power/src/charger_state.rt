@@ -6,7 +6,7 @@ use curve::float::{max, min};
 use curve::units::{Kw, Kwh, Seconds};
 
 // Finished: the car goes in this round; the charger is freed at the round's end.
-#[derive(Drop)]
+#[derive(Clone, Copy)]
 pub enum Status {
     Free,
     Charging,
@@ -16,7 +16,7 @@ pub enum Status {
 
 // `vehicle` and `profile` are places in the plan, `session` is one in the book. `vehicle` stands last: beside the other three bytes
 // it would make a word of them, and the lone car's rounds slower.
-#[derive(Drop)]
+#[derive(Clone, Copy)]
 pub struct ChargerState {
     pub status: Status,
     pub profile: u8,

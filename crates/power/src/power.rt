@@ -14,7 +14,7 @@ use charger::charge_profile_list::place_on_curve;
 use curve::units::Kw;
 
 // The most that all chargers may draw together.
-#[derive(Drop)]
+#[derive(Clone, Copy)]
 pub enum Limit {
     Unlimited,
     AtMost(Kw),
@@ -178,7 +178,7 @@ fn charge(
 }
 
 // How many rounds were charged, and whether a charger is finished.
-#[derive(Drop)]
+#[derive(Clone, Copy)]
 pub struct Spun {
     pub rounds: u64,
     pub any: bool,

@@ -11,7 +11,7 @@ use crate::charger_state::{Status, is_free};
 use crate::power::{Limit, Spun, charge_together};
 
 // The chargers that have a car: the first `count` of `places`, in charger order.
-#[derive(Drop)]
+#[derive(Clone, Copy)]
 struct Busy {
     places: [usize; 32],
     count: usize,

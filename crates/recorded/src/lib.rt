@@ -1,5 +1,7 @@
 // A record of calls for a program that replays them: numbers, and changes to the program's buffers; what lies past its end counts as zero. And
 // what the program writes of a call.
+#![tactic(auto)]
+
 ghost use Rattle.std.specs.Prelude.{◌<◌, ◌≤◌};
 
 fn byte_value(x: u8) -> usize

@@ -5,14 +5,14 @@ ghost use Rattle.shares.specs.Fair.{Fair};
 ghost use Rattle.shares.specs.Code.Parted as Spec;
 
 // The requests parted by a level: the sum of those at or below it, and how many are above it.
-#[derive(Drop)]
+#[derive(Clone, Copy)]
 struct Parted {
     under: u64,
     above: u64,
 }
 
 // A level, and what it leaves of the limit.
-#[derive(Drop)]
+#[derive(Clone, Copy)]
 struct Levelled {
     level: u64,
     left: u64,

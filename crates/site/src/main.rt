@@ -1,4 +1,6 @@
 // The program: standard input, a reply to it, standard output. A read or a write that fails is said on standard error.
+#![tactic(auto)]
+
 use libc::{STDERR_FILENO, STDIN_FILENO, STDOUT_FILENO};
 
 // A plan has at most 57,856 bytes: of a longer input enough is read to see that it is longer. Of a shorter one nothing may be left.

@@ -1,4 +1,6 @@
 // Sums up a book: standard input, a line of its totals, standard output. A read or a write that fails is said on standard error.
+#![tactic(auto)]
+
 ghost use Rattle.std.specs.Prelude.{◌≡◌, take};
 ghost use Rattle.io.specs.Counts.{IsPrefixLen};
 ghost use Rattle.files.specs.Book.{written};

@@ -1,5 +1,7 @@
 // Replays recorded inputs. Standard input holds them, each as changes to the one before; standard output is what the program writes for
 // each. The record: a 32-bit number of inputs; for each its 32-bit length and its changes. All of its numbers are below 65,536.
+#![tactic(auto)]
+
 ghost use Rattle.std.specs.Prelude.{◌≤◌, length};
 
 use libc::{STDERR_FILENO, STDIN_FILENO, STDOUT_FILENO};
