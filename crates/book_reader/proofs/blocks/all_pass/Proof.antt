@@ -3,7 +3,7 @@ use mathlib.Core.Path.{◌≡◌, sym, ◌∙◌}
 use Prim.Native.Nat.{◌+◌, ◌-◌}
 use native.Mathlib.Nat.{sub-zero}
 use native.Mathlib.Omega.{arith}
-use borrow.Author.Tests.{not_true, not-false}
+use borrow.Author.Tests.{not-true, not-false}
 use Rattle.plan.specs.Search.{every}
 use Rattle.plan.proofs.SearchLaws.{every_again, every-broken, every_end}
 use mathlib.Core.Bool.{Bool}
@@ -33,7 +33,7 @@ returns : tie.Need-returns invariant-loop decreases-loop
 returns c =
     let at-loop = c.before.before.before in
     let a = at-loop.before.before.args in
-    sym (every-broken (passing a.book.now) at-loop.loop.k a.n (omega arith) (sym c.before.passes.ensures ∙ not_true _ c.if1.true)) ∙ at-loop.loop.invariant
+    sym (every-broken (passing a.book.now) at-loop.loop.k a.n (omega arith) (sym c.before.passes.ensures ∙ not-true _ c.if1.true)) ∙ at-loop.loop.invariant
 
 add-k : tie.Need-overflow-add-k invariant-loop decreases-loop
 add-k c = omega arith

@@ -1,7 +1,7 @@
 -- `book_reader::blocks::damaged` meets its contract. Assumes nothing.
 use mathlib.Core.Path.{sym, ◌∙◌}
 use native.Mathlib.Omega.{arith}
-use borrow.Author.Tests.{not_true, not-false}
+use borrow.Author.Tests.{not-true, not-false}
 use lib.ListN.{length}
 use Rattle.plan.proofs.blocks.Laws.{whole_blocks_lem}
 use Rattle.book_reader.specs.Reader.{damaged}
@@ -14,7 +14,7 @@ whole-blocks-requires c κs = search rules
 
 returns : tie.Need-returns
 unfolding damaged
-returns c = rw (sym c.before.whole_blocks_lem.ensures ∙ not_true _ c.if1.true)
+returns c = rw (sym c.before.whole_blocks_lem.ensures ∙ not-true _ c.if1.true)
 
 all-pass-requires : tie.Need-all-pass-requires
 all-pass-requires c κs =

@@ -3,7 +3,7 @@ use mathlib.Core.Path.{◌≡◌, sym, ◌∙◌}
 use mathlib.Core.Bool.{true, false, ◌&&◌}
 use Prim.Native.Nat.{◌+◌, ◌/◌}
 use native.Mathlib.Omega.{arith}
-use borrow.Author.Tests.{not_true, not-false}
+use borrow.Author.Tests.{not-true, not-false}
 use Rattle.plan.specs.Search.{every, holds}
 use Rattle.files.specs.Book.{session_count}
 use Rattle.book_reader.specs.Reader.{damaged, header_tests, session_ok, rest_ok}
@@ -38,7 +38,7 @@ header-ok-requires : tie.Need-header-ok-requires
 header-ok-requires c κs = some_block _ (intact c)
 
 returns-2 : tie.Need-returns-2
-returns-2 c = sym (by_header _ (intact c.before.before) (sym c.before.header_ok.ensures ∙ not_true _ c.if2.true))
+returns-2 c = sym (by_header _ (intact c.before.before) (sym c.before.header_ok.ensures ∙ not-true _ c.if2.true))
 
 u16-at-requires : tie.Need-u16-at-requires
 u16-at-requires c κs = let h = some_block _ (intact c.before.before) in omega arith

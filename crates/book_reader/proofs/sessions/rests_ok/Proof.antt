@@ -4,7 +4,7 @@ use Prim.Native.Nat.{◌+◌, ◌-◌, ◌/◌}
 use native.Mathlib.Nat.{sub-zero}
 use native.Mathlib.Omega.{arith}
 use borrow.Author.Rules.{rules}
-use borrow.Author.Tests.{not_true, not-false}
+use borrow.Author.Tests.{not-true, not-false}
 use Rattle.plan.specs.Search.{every}
 use Rattle.plan.proofs.SearchLaws.{every_again, every-broken, every_end}
 use Rattle.book_reader.specs.Reader.{rest_ok}
@@ -30,7 +30,7 @@ returns : tie.Need-returns invariant-loop decreases-loop
 returns c =
     let at-loop = c.before.before.before in
     let a = at-loop.before.before.args in
-    sym (every-broken (rest_ok a.book.now) at-loop.loop.j ((a.n + 4) / 5) (omega arith) (sym c.before.rest_ok.ensures ∙ not_true _ c.if1.true)) ∙ at-loop.loop.invariant
+    sym (every-broken (rest_ok a.book.now) at-loop.loop.j ((a.n + 4) / 5) (omega arith) (sym c.before.rest_ok.ensures ∙ not-true _ c.if1.true)) ∙ at-loop.loop.invariant
 
 add-j : tie.Need-overflow-add-j invariant-loop decreases-loop
 add-j c = omega arith

@@ -1,6 +1,6 @@
 -- `charge_profile::passed` meets its contract. The loop's invariant: with those from i on, as many points are passed as in all.
 use Rattle.std.proofs.Common.{◌≡◌, ◌+◌, ◌-◌, ◌≤◌, length, drop, arith}
-use borrow.Author.Tests.{not_true, not-false}
+use borrow.Author.Tests.{not-true, not-false}
 use Rattle.curve.specs.Code.Rows.{points, passed}
 use Rattle.curve.proofs.charge_profile.Segments.{passed-below, passed_not, passed_end}
 use Rattle.curve.proofs.charge_profile.passed.Statement.{statement}
@@ -28,7 +28,7 @@ returns : tie.Need-returns invariant-loop decreases-loop
 returns c =
     let at_test = c.before.before in
     let at-loop = at_test.before in
-    (omega arith, omega (arith, at-loop.loop.invariant.1, passed_not at-loop.before.args.curve.now at-loop.before.args.soc at-loop.loop.i at_test.loop-test.true (not_true _ c.if1.true)))
+    (omega arith, omega (arith, at-loop.loop.invariant.1, passed_not at-loop.before.args.curve.now at-loop.before.args.soc at-loop.loop.i at_test.loop-test.true (not-true _ c.if1.true)))
 
 add-i : tie.Need-overflow-add-i invariant-loop decreases-loop
 add-i c = omega arith

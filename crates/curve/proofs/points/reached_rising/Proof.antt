@@ -1,6 +1,6 @@
 -- `points::reached_rising` meets its contract. The loop's invariant: the search gets at least as far as the points passed.
 use Rattle.std.proofs.Common.{◌+◌, ◌/◌, ◌<◌, ◌≤◌, length, ◌∙◌, ⊎_elim, arith}
-use borrow.Author.Tests.{not_true}
+use borrow.Author.Tests.{not-true}
 use Rattle.curve.specs.Code.Rows.{points}
 use Rattle.curve.specs.Curve.{reached}
 use Rattle.curve.proofs.charge_profile.Segments.{reached_from_lem}
@@ -45,7 +45,7 @@ loop-again c =
     let middle = at-loop.loop.passed + at-loop.loop.left / 2 in
     let inside : middle < length a.curve.now = omega arith in
     ⊎_elim
-    (λ w. (omega arith, omega (arith, reached_past a.soc a.curve.now middle at-loop.before.requires inside (not_true _ w.0.taken))))
+    (λ w. (omega arith, omega (arith, reached_past a.soc a.curve.now middle at-loop.before.requires inside (not-true _ w.0.taken))))
     (λ w. (omega arith, omega arith))
     c.if1.branch
 

@@ -1,12 +1,12 @@
 -- `files::book_session::charger_id` meets its contract. Assumes nothing.
-use borrow.Author.Tests.{lt-ltb, le-ltb, not_true, not-false}
+use borrow.Author.Tests.{lt-ltb, le-ltb, not-true, not-false}
 use borrow.Author.Rules.{rules}
 use Rattle.files.specs.BookSession.{charger_id}
 use Rattle.files.proofs.book_session.charger_id.Statement.{statement}
 use Rattle.files.proofs.book_session.charger_id.Tie as tie
 
 returns : tie.Need-returns
-returns c = rw (not_true c.before.before.args.there c.if1.true)
+returns c = rw (not-true c.before.before.args.there c.if1.true)
 
 charger-count-requires : tie.Need-charger-count-requires
 charger-count-requires c κs = search rules

@@ -1,11 +1,11 @@
 -- `files::book_session::connector_code` meets its contract. Assumes nothing.
-use borrow.Author.Tests.{not_true, not-false}
+use borrow.Author.Tests.{not-true, not-false}
 use borrow.Author.Rules.{rules}
 use Rattle.files.proofs.book_session.connector_code.Statement.{statement}
 use Rattle.files.proofs.book_session.connector_code.Tie as tie
 
 returns : tie.Need-returns
-returns c = rw (not_true c.before.args.there c.if1.true)
+returns c = rw (not-true c.before.args.there c.if1.true)
 
 connector-of-requires : tie.Need-connector-of-requires
 connector-of-requires c κs = search rules

@@ -1,5 +1,5 @@
 -- `files::pairs::fails` meets its contract. Assumes nothing.
-use borrow.Author.Tests.{not_true, not-false}
+use borrow.Author.Tests.{not-true, not-false}
 use lib.Ieee.{of_bits}
 use borrow.Author.Rules.{rules}
 use Rattle.curve.specs.F64.{ratio}
@@ -10,7 +10,7 @@ fits-requires : tie.Need-fits-requires
 fits-requires c κs = search rules
 
 returns : tie.Need-returns
-returns c = rw (← c.before.fits2.ensures, not_true c.before.fits2.result c.if1.true)
+returns c = rw (← c.before.fits2.ensures, not-true c.before.fits2.result c.if1.true)
 
 rated-power-requires : tie.Need-rated-power-requires
 rated-power-requires c κs = search rules

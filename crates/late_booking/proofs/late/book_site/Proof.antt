@@ -5,7 +5,7 @@ use mathlib.Core.List.{List}
 use Prim.Native.Nat.{ℕ, ◌≤◌, ◌<◌}
 use native.Mathlib.Omega.{arith}
 use lib.Dec.{leb}
-use borrow.Author.Tests.{not_true, not-false, le-leb, lt-leb}
+use borrow.Author.Tests.{not-true, not-false, le-leb, lt-leb}
 use Rattle.engine.specs.Plan.{Plan}
 use Rattle.files.specs.Read.{read_plan}
 use Rattle.files.proofs.call.RunLaws.{runnable, plan_read}
@@ -76,7 +76,7 @@ is-dump-requires c κs =
 
 returns-2 : tie.Need-returns-2
 unfolding booking_answer
-returns-2 c = (rw (sym (compared c.before) ∙ not_true _ c.if2.true), refl)
+returns-2 c = (rw (sym (compared c.before) ∙ not-true _ c.if2.true), refl)
 
 returns-3 : tie.Need-returns-3
 unfolding booking_answer
@@ -89,7 +89,7 @@ returns-4 : tie.Need-returns-4
 unfolding booking_answer
 returns-4 c =
     let at = c.before.before.before.before.before in
-    (rw (own c.before.before.before.before, room c.before.before, sym (later-told at) ∙ not_true _ c.if4.true), refl)
+    (rw (own c.before.before.before.before, room c.before.before, sym (later-told at) ∙ not-true _ c.if4.true), refl)
 
 dump-longer-requires : tie.Need-dump-longer-requires
 dump-longer-requires c κs =

@@ -1,7 +1,7 @@
 -- `plan::fields::points_ok` meets its contract. Assumes nothing.
 use Rattle.std.proofs.Common.{◌≡◌, ◌-◌, sym, ◌∙◌, arith}
 use native.Mathlib.Nat.{sub-zero}
-use borrow.Author.Tests.{not_true, not-false}
+use borrow.Author.Tests.{not-true, not-false}
 use Rattle.plan.specs.Search.{every}
 use Rattle.plan.specs.Fields.{point_ok}
 use Rattle.plan.proofs.SearchLaws.{every_again, every-broken, every_end}
@@ -24,7 +24,7 @@ returns : tie.Need-returns invariant-loop decreases-loop
 returns c =
     let at-loop = c.before.before.before in
     let a = at-loop.before.before.args in
-    sym (every-broken (point_ok a.b.now) at-loop.loop.i a.n (omega arith) (sym c.before.point-ok.ensures ∙ not_true _ c.if1.true)) ∙ at-loop.loop.invariant
+    sym (every-broken (point_ok a.b.now) at-loop.loop.i a.n (omega arith) (sym c.before.point-ok.ensures ∙ not-true _ c.if1.true)) ∙ at-loop.loop.invariant
 
 add-i : tie.Need-overflow-add-i invariant-loop decreases-loop
 add-i c = omega arith

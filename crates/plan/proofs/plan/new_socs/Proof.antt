@@ -1,7 +1,7 @@
 -- `plan::plan::new_socs` meets its contract. Assumes nothing.
 use Rattle.std.proofs.Common.{◌≡◌, ◌-◌, sym, ◌∙◌, arith, rules}
 use native.Mathlib.Nat.{sub-zero}
-use borrow.Author.Tests.{not_true, not-false}
+use borrow.Author.Tests.{not-true, not-false}
 use Rattle.plan.specs.Search.{every}
 use Rattle.plan.specs.Plan.{new_soc}
 use Rattle.plan.proofs.SearchLaws.{every_again, every-broken, every_end}
@@ -42,7 +42,7 @@ returns : tie.Need-returns invariant-loop decreases-loop
 returns c =
     let at-loop = c.before.before.before.before in
     let a = at-loop.before.before.before.before.before.args in
-    sym (every-broken (new_soc a.b.now) at-loop.loop.i a.n (omega arith) (sym (tested c.before) ∙ not_true _ c.if1.true)) ∙ at-loop.loop.invariant
+    sym (every-broken (new_soc a.b.now) at-loop.loop.i a.n (omega arith) (sym (tested c.before) ∙ not-true _ c.if1.true)) ∙ at-loop.loop.invariant
 
 add-i : tie.Need-overflow-add-i invariant-loop decreases-loop
 add-i c = omega arith
