@@ -1,4 +1,3 @@
 pub mod Rising
-pub mod ByHand
 pub mod ByPlace
 pub mod Rows

@@ -1,6 +1,6 @@
 -- At a point of a strictly rising curve within the limits the power is the point's power, bit for bit.
 use Rattle.std.proofs.Common.{◌≡◌, ℕ, zero, suc, ◌*◌, ◌<◌, ◌≤◌, Bool, true, false, cond, T, ltb, List, [], ◌∷◌, length, get_or, ℤ, refl, ap, ◌∙◌, subst, arith, ltb→lt}
-use lib.Ieee.{Float, nan, inf, fin, up, down, lt, le, fits}
+use lib.Ieee.{Float, nan, inf, fin, up, down, lt, le}
 use lib.Ieee.Bits.{is_true}
 use lib.Ieee.Positive.{above, above_of_le}
 use Rattle.curve.specs.F64.{◌⊕◌, ◌⊖◌, ◌⊗◌, ◌⊘◌, ratio, clear}

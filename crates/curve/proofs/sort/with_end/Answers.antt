@@ -1,0 +1,26 @@
+-- `sort::with_end` meets its contract.
+use Rattle.std.proofs.Common.{◌<◌, ◌≤◌, length, arith}
+use lib.Ieee.{of_bits}
+use Rattle.curve.specs.F64.{ratio}
+use Rattle.curve.specs.Curve.{with_end}
+use Rattle.curve.proofs.sort.Order.{points_store, end_of}
+use Rattle.curve.proofs.sort.with_end.Goals as goal
+
+pub returns-then-n-eq0 : goal.returns-then-n-eq0
+unfolding with_end
+returns-then-n-eq0 c = record { bounded = omega arith; added = rw c.if-n-eq0.true }
+
+pub returns-then-p : goal.returns-then-p
+unfolding of_bits ratio
+returns-then-p c =
+    let room : c.args.n < length c.args.curve.now = omega arith in
+    let fits : c.args.n ≤ length c.args.curve.now = omega arith in
+    let some : 0 < c.args.n = omega arith in
+    record { bounded = omega arith; added = rw (c.store.ensures, points_store _ _ _ room, end_of _ _ _ c.point_at-p.ensures some fits) (simp c.if-p.true) }
+
+pub returns : goal.returns
+unfolding of_bits ratio
+returns c =
+    let fits : c.args.n ≤ length c.args.curve.now = omega arith in
+    let some : 0 < c.args.n = omega arith in
+    record { bounded = omega arith; added = rw (end_of _ _ _ c.point_at-p.ensures some fits) (simp c.if-p.false) }
