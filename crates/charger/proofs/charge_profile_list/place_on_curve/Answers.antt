@@ -1,6 +1,5 @@
 -- `charge_profile_list::place_on_curve` meets its contract: the part lent to `place_near` is the curve of the profile. Assumes nothing.
 use mathlib.Core.Path.{◌∙◌}
-use borrow.Author.Rules.{rules}
 use Rattle.charger.proofs.charge_profile_list.place_on_curve.Goals as goal
 
 pub place_near-requires : goal.place_near-requires

@@ -4,7 +4,6 @@ use Prim.Native.Nat.{ℕ, ◌+◌, ◌*◌, ◌<◌}
 use native.Mathlib.Omega.{arith}
 use lib.ListN.{length, get_or}
 use Rattle.charger.proofs.charge_profile_list.Profiles.{inside, past, too_short}
-use borrow.Author.Rules.{rules}
 use Rattle.charger.proofs.charge_profile_list.profile_curve.Goals as goal
 
 pub returns-then-lens-profile : goal.returns-then-lens-profile

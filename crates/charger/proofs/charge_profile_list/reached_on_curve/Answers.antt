@@ -1,6 +1,5 @@
 -- `charge_profile_list::reached_on_curve` meets its contract. Assumes nothing.
 use mathlib.Core.Path.{◌∙◌}
-use borrow.Author.Rules.{rules}
 use Rattle.charger.proofs.charge_profile_list.reached_on_curve.Goals as goal
 
 pub returns : goal.returns

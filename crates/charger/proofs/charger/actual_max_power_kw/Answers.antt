@@ -2,7 +2,6 @@
 use lib.Ieee.{of_bits}
 use Rattle.curve.specs.F64.{ratio}
 use Rattle.charger.specs.Charger.{actual_max_power}
-use borrow.Author.Rules.{rules}
 use Rattle.charger.proofs.charger.actual_max_power_kw.Goals as goal
 
 pub returns : goal.returns

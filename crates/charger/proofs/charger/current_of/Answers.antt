@@ -1,6 +1,5 @@
 -- `charger::current_of` meets its contract. Assumes nothing.
 use mathlib.Core.Path.{sym, ap}
-use borrow.Author.Rules.{rules}
 use lib.Ieee.{Float, of_bits}
 use Rattle.curve.specs.F64.{ratio}
 use Rattle.charger.proofs.charger.current_of.Goals as goal

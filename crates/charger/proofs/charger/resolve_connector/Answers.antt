@@ -1,7 +1,6 @@
 -- `charger::resolve_connector` meets its contract. Each arm is given which constructor `connector_of` returned. Assumes nothing.
 use mathlib.Core.Path.{sym, ap, ◌∙◌}
 use Rattle.charger.specs.Charger.{with_current}
-use borrow.Author.Rules.{rules}
 use Rattle.charger.proofs.charger.resolve_connector.Goals as goal
 
 pub returns-in-Connector : goal.returns-in-Connector

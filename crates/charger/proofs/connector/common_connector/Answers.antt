@@ -1,10 +1,7 @@
 use mathlib.Core.Path.{◌≡◌, refl, sym, ◌∙◌}
-use Prim.Native.Nat.{◌≤◌, ◌-◌}
 use borrow.Author.Rules.{rules}
 use native.Mathlib.Omega.{arith}
-use lib.ListN.{length, take}
-use Rattle.charger.specs.Connector.{common}
-use Rattle.charger.specs.Code.Queue.{part}
+use lib.ListN.{length}
 use Rattle.charger.proofs.waiting_queue.Part.{part_next, part_end, part_past}
 use Rattle.charger.proofs.connector.common_connector.Goals as goal
 

@@ -4,7 +4,6 @@ use lib.ListN.{take}
 use Rattle.charger.specs.declared.connector.Connectors.{Connectors}
 use Rattle.charger.specs.Connector.{row_of}
 use Rattle.charger.proofs.connector.Rows.{connectors_listed}
-use borrow.Author.Rules.{rules}
 use Rattle.charger.proofs.connector.connector_row.Goals as goal
 
 pub returns : goal.returns

@@ -1,11 +1,8 @@
 use mathlib.Core.Path.{◌≡◌, refl, sym, ◌∙◌}
-use Prim.Native.Nat.{◌≤◌, ◌-◌}
 use borrow.Author.Rules.{rules}
 use borrow.Author.Tests.{eq-eqb, ne_eqb}
 use native.Mathlib.Omega.{arith}
-use lib.ListN.{length, take}
-use Rattle.charger.specs.Connector.{contains}
-use Rattle.charger.specs.Code.Queue.{part}
+use lib.ListN.{length}
 use Rattle.charger.proofs.waiting_queue.Part.{part_next, part_end, part_past}
 use Rattle.charger.proofs.connector.names.Goals as goal
 

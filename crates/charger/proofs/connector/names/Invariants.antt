@@ -1,13 +1,9 @@
 -- `connector::names` meets its contract. A code is among all of the codes if it is among those from i on. Assumes nothing.
-use mathlib.Core.Path.{◌≡◌, refl, sym, ◌∙◌}
+use mathlib.Core.Path.{◌≡◌}
 use Prim.Native.Nat.{◌≤◌, ◌-◌}
-use borrow.Author.Rules.{rules}
-use borrow.Author.Tests.{eq-eqb, ne_eqb}
-use native.Mathlib.Omega.{arith}
-use lib.ListN.{length, take}
+use lib.ListN.{take}
 use Rattle.charger.specs.Connector.{contains}
 use Rattle.charger.specs.Code.Queue.{part}
-use Rattle.charger.proofs.waiting_queue.Part.{part_next, part_end, part_past}
 use Rattle.charger.proofs.connector.names.Given as goal
 
 abbrev pub invariant-loop-i : goal.invariant-loop-i

@@ -1,6 +1,5 @@
 -- `vehicle::fits` meets its contract. Each arm is given which constructor `connector_of` returned. Assumes nothing.
 use mathlib.Core.Path.{sym, ap, ◌∙◌}
-use borrow.Author.Rules.{rules}
 use Rattle.charger.specs.Connector.{is_connector}
 use Rattle.charger.specs.Vehicle.{compatible}
 use Rattle.charger.proofs.vehicle.fits.Goals as goal

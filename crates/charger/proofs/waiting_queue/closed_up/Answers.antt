@@ -1,9 +1,9 @@
 use mathlib.Core.Path.{◌≡◌}
-use Prim.Native.Nat.{◌≤◌, ◌<◌, ◌-◌, ◌+◌}
+use Prim.Native.Nat.{◌-◌, ◌+◌}
 use borrow.Author.Rules.{rules}
 use native.Mathlib.Omega.{arith}
-use lib.ListN.{length, length-set}
-use Rattle.charger.proofs.waiting_queue.Part.{Closing, closing_start, closing_more}
+use lib.ListN.{length-set}
+use Rattle.charger.proofs.waiting_queue.Part.{closing_start, closing_more}
 use Rattle.charger.proofs.waiting_queue.closed_up.Goals as goal
 
 pub loop-i-init : goal.loop-i-init

@@ -1,10 +1,8 @@
 -- `waiting_queue::closed_up` meets its contract. The loop's invariant: those up to i have moved up, and from i on the array is as it was. Assumes nothing.
 use mathlib.Core.Path.{◌≡◌}
-use Prim.Native.Nat.{◌≤◌, ◌<◌, ◌-◌, ◌+◌}
-use borrow.Author.Rules.{rules}
-use native.Mathlib.Omega.{arith}
-use lib.ListN.{length, length-set}
-use Rattle.charger.proofs.waiting_queue.Part.{Closing, closing_start, closing_more}
+use Prim.Native.Nat.{◌≤◌, ◌<◌, ◌-◌}
+use lib.ListN.{length}
+use Rattle.charger.proofs.waiting_queue.Part.{Closing}
 use Rattle.charger.proofs.waiting_queue.closed_up.Given as goal
 
 abbrev pub invariant-loop-i : goal.invariant-loop-i

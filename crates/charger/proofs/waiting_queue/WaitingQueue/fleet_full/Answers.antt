@@ -1,5 +1,4 @@
 -- `waiting_queue::WaitingQueue::fleet_full` meets its contract. Assumes nothing.
-use borrow.Author.Rules.{rules}
 use borrow.Author.Tests.{le-leb}
 use native.Mathlib.Omega.{arith}
 use Rattle.charger.specs.Fleet.{fleet_full}

@@ -1,7 +1,6 @@
 -- `waiting_queue::WaitingQueue::pop_compatible` meets its contract. What stands where the search stops is what `first` finds. Assumes nothing.
 use mathlib.Core.Path.{sym, ap, ◌∙◌}
 use Prim.Native.Nat.{ℕ}
-use borrow.Author.Rules.{rules}
 use Rattle.charger.specs.Code.Vehicles.{listed}
 use Rattle.charger.specs.Vehicle.{fits_at}
 use Rattle.charger.specs.Code.Queue.{waiting, taken_at}

@@ -1,13 +1,9 @@
 -- `waiting_queue::WaitingQueue::position` meets its contract. The loop's invariant: nobody before i is `id`. Assumes nothing.
 use mathlib.Core.Path.{◌≡◌}
 use Prim.Native.Nat.{◌≤◌, ◌-◌, ◌+◌}
-use borrow.Author.Rules.{rules}
-use borrow.Author.Tests.{eq-eqb, ne_eqb}
-use native.Mathlib.Omega.{arith}
 use lib.Dec.{eqb}
 use lib.ListN.{length, take}
 use Rattle.charger.specs.Code.Queue.{part, seek}
-use Rattle.charger.proofs.waiting_queue.Part.{seek_here, seek_on, seek_end}
 use Rattle.charger.proofs.waiting_queue.WaitingQueue.position.Given as goal
 
 abbrev pub invariant-loop-i : goal.invariant-loop-i

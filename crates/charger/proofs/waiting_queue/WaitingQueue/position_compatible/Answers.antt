@@ -1,11 +1,8 @@
-use mathlib.Core.Path.{◌≡◌, sym, ap, ◌∙◌}
-use Prim.Native.Nat.{◌≤◌, ◌-◌, ◌+◌}
+use mathlib.Core.Path.{sym, ap, ◌∙◌}
 use borrow.Author.Rules.{rules}
 use native.Mathlib.Omega.{arith}
-use lib.ListN.{length, take}
 use Rattle.charger.specs.Code.Vehicles.{listed}
 use Rattle.charger.specs.Vehicle.{fits_at, compatible}
-use Rattle.charger.specs.Code.Queue.{part, seek}
 use Rattle.charger.proofs.waiting_queue.Part.{seek_here, seek_on, seek_end}
 use Rattle.charger.proofs.waiting_queue.WaitingQueue.position_compatible.Goals as goal
 
@@ -17,7 +14,7 @@ returns-then-fits c =
     omega (
       arith,
       seek_here (fits_at c.args.row (listed c.args.vehicles)) c.args.self.ids c.loop-at.at c.args.self.len 0 (omega arith) (omega arith)
-          (sym (c.fits2.ensures ∙ ap (compatible c.args.row) c.get_vehicle.ensures) ∙ c.if-fits.true),
+          (sym (c.fits.ensures ∙ ap (compatible c.args.row) c.get_vehicle.ensures) ∙ c.if-fits.true),
     )
 
 pub loop-at-preserved : goal.loop-at-preserved
@@ -25,7 +22,7 @@ loop-at-preserved c =
     omega (
       arith,
       seek_on (fits_at c.args.row (listed c.args.vehicles)) c.args.self.ids c.loop-at.at c.args.self.len 0 (omega arith) (omega arith)
-          (sym (c.fits2.ensures ∙ ap (compatible c.args.row) c.get_vehicle.ensures) ∙ c.if-fits.false),
+          (sym (c.fits.ensures ∙ ap (compatible c.args.row) c.get_vehicle.ensures) ∙ c.if-fits.false),
     )
 
 pub returns : goal.returns

@@ -1,13 +1,10 @@
 -- `waiting_queue::WaitingQueue::position_compatible` meets its contract. The loop's invariant: nobody before it fits. Assumes nothing.
-use mathlib.Core.Path.{◌≡◌, sym, ap, ◌∙◌}
+use mathlib.Core.Path.{◌≡◌}
 use Prim.Native.Nat.{◌≤◌, ◌-◌, ◌+◌}
-use borrow.Author.Rules.{rules}
-use native.Mathlib.Omega.{arith}
 use lib.ListN.{length, take}
 use Rattle.charger.specs.Code.Vehicles.{listed}
-use Rattle.charger.specs.Vehicle.{fits_at, compatible}
+use Rattle.charger.specs.Vehicle.{fits_at}
 use Rattle.charger.specs.Code.Queue.{part, seek}
-use Rattle.charger.proofs.waiting_queue.Part.{seek_here, seek_on, seek_end}
 use Rattle.charger.proofs.waiting_queue.WaitingQueue.position_compatible.Given as goal
 
 abbrev pub invariant-loop-at : goal.invariant-loop-at

@@ -1,7 +1,6 @@
 -- `waiting_queue::WaitingQueue::remove` meets its contract. What stands where the search stops is what `first` finds. Assumes nothing.
 use mathlib.Core.Path.{sym, ap, ◌∙◌}
 use Prim.Native.Nat.{ℕ}
-use borrow.Author.Rules.{rules}
 use lib.Dec.{eqb}
 use Rattle.charger.specs.Code.Queue.{waiting, taken_at}
 use Rattle.charger.proofs.waiting_queue.Part.{first_taken}

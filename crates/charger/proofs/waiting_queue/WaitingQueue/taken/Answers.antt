@@ -7,7 +7,6 @@ use borrow.Author.Tests.{lt-ltb, le-ltb}
 use native.Mathlib.Omega.{arith}
 use lib.ListN.{length, take, length-take}
 use lib.Seq.{get_or-take}
-use Rattle.charger.specs.First.{found}
 use Rattle.charger.proofs.waiting_queue.WaitingQueue.taken.Goals as goal
 
 pub returns-then-n-at : goal.returns-then-n-at
