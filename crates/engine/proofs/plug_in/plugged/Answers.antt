@@ -1,0 +1,10 @@
+-- `engine::plug_in::plugged` meets its contract.
+use lib.Ieee.{of_bits}
+use Rattle.curve.specs.F64.{ratio}
+use Rattle.engine.specs.Timestep.{plugged}
+use Rattle.std.proofs.Common.{rules}
+use Rattle.engine.proofs.plug_in.plugged.Goals as goal
+
+pub returns : goal.returns
+unfolding plugged ratio of_bits
+returns c = rw (c.narrow-3.ensures, c.narrow-2.ensures, c.narrow.ensures)

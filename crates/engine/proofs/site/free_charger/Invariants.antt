@@ -1,0 +1,16 @@
+-- `engine::site::free_charger` meets its contract. The loop's invariant: no charger before c is free and fits. Assumes nothing.
+use Rattle.std.proofs.Common.{◌≡◌, ◌+◌, ◌-◌, ◌≤◌, length, take, sym, ◌∙◌, arith, rules}
+use Rattle.charger.specs.Code.Queue.{part, seek}
+use Rattle.charger.proofs.waiting_queue.Part.{length_mapped}
+use Rattle.engine.specs.SiteState.{below}
+use Rattle.engine.specs.Code.Simulation.{takes}
+use Rattle.engine.proofs.site.Places.{search_start, search_here, search_on, search_end, takes_at}
+use Rattle.engine.proofs.site.free_charger.Given as goal
+
+abbrev pub invariant-loop-c : goal.invariant-loop-c
+invariant-loop-c l =
+    (length l.rows ≡ 32) × (length l.free ≡ 32) × (l.c ≤ l.count) × (l.count ≤ 32)
+    × (seek (takes l.free (take l.count l.rows) l.vehicle) (below l.count) ≡ l.c + seek (takes l.free (take l.count l.rows) l.vehicle) (part l.c l.count (below l.count)))
+
+abbrev pub decreases-loop-c : goal.decreases-loop-c
+decreases-loop-c l = l.count - l.c
