@@ -99,8 +99,7 @@ car-there c = c.handle-effect.ensures.there _ _ c.in-PlugsIn.is
 
 pub loop-i-init : goal.loop-i-init
 loop-i-init c =
-    let none_yet : c.args.state.simulation.events.head ≡ c.args.state.simulation.events.head + 0 = omega arith in
-    (
+    let none_yet : c.args.state.simulation.events.head ≡ c.args.state.simulation.events.head + 0 = omega arith in (
       search rules,
       c.requires.1.0,
       record { events = search (length_mapped, c.well_formed.1.1.1.1.0.1.1.0.1.1.0); queue = search (length_mapped, c.well_formed.1.1.1.1.0.1.1.0.1.1.1.0); sessions = search (length_mapped, c.well_formed.1.1.1.1.0.1.1.0.1.1.1.1.0) },
@@ -144,8 +143,7 @@ overflow_add-events c =
 pub loop-i-preserved-in-Nothing : goal.loop-i-preserved-in-Nothing
 loop-i-preserved-in-Nothing c =
     let l = (loop-of c.before).loop in
-    let s = start_of (loop-of c.before) in
-    (
+    let s = start_of (loop-of c.before) in (
       search rules,
       record { order = omega (arith, c.if-events-head.false); events = l.inv.1.events; queued = omega (arith, room c.before); sessions = l.inv.1.sessions },
       record { events = l.inv.2.events; queue = queue-whole c.before; sessions = l.inv.2.sessions },

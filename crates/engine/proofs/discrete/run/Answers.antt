@@ -20,11 +20,10 @@ new-requires c =
     (c.requires.0.0, c.requires.1)
 
 pub go_on-requires : goal.go_on-requires
-go_on-requires c =
-    (
-      c.requires,
-      (c.new.ensures.sound, begins (planned c.before) c.new.ensures c.args.site.count (chargers-count c.before) c.requires.0.1 ∙ ap (run (planned c.before)) (sym c.new.ensures.head)),
-    )
+go_on-requires c = (
+  c.requires,
+  (c.new.ensures.sound, begins (planned c.before) c.new.ensures c.args.site.count (chargers-count c.before) c.requires.0.1 ∙ ap (run (planned c.before)) (sym c.new.ensures.head)),
+)
 
 pub returns : goal.returns
 returns c =

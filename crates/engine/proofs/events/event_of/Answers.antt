@@ -1,10 +1,11 @@
 -- `engine::events::event_of` meets its contract: the kind is by the second number. Assumes nothing.
 use Rattle.std.proofs.Common.{⊎_elim, rules, eq-eqb, ne_eqb}
 use Rattle.engine.proofs.events.event_of.Goals as goal
+use Rattle.engine.proofs.events.event_of.Goals.{then-row-eq0, else-row-eq0}
 
 pub returns : goal.returns
 returns c =
-    ⊎_elim
-    (λ w. rw (w.1, eq-eqb _ _ w.0.taken))
-    (λ w. rw (w.1, ne_eqb _ _ w.0.left))
-    c.if-row-eq0.branch
+    elim c.if-row-eq0.branch [
+      | then-row-eq0 w ↦ rw (w.kind-is, eq-eqb _ _ w.if-row-eq0.true)
+      | else-row-eq0 w ↦ rw (w.kind-is, ne_eqb _ _ w.if-row-eq0.false)
+    ]

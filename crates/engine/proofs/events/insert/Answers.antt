@@ -2,6 +2,7 @@ use Rattle.std.proofs.Common.{◌≡◌, ◌≤◌, [], length, refl, ⊎_elim, 
 use Rattle.charger.proofs.waiting_queue.Part.{Opening, opening_start, opening_down}
 use Rattle.engine.proofs.events.Rows.{compared, place, place_start, place-below, place-above, placed}
 use Rattle.engine.proofs.events.insert.Goals as goal
+use Rattle.engine.proofs.events.insert.Goals.{else-loop-j-test, then-loop-j-test+else-pops_before}
 
 pub loop-j-init : goal.loop-j-init
 loop-j-init c =
@@ -29,14 +30,13 @@ pub loop-j-smaller : goal.loop-j-smaller
 loop-j-smaller c = omega arith
 
 pub loop-j-preserved : goal.loop-j-preserved
-loop-j-preserved c =
-    (
-      omega arith,
-      simp length-set c.loop-j.invariant.1,
-      opening_down c.loop-j.j c.args.n c.args.rows.now c.loop-j.rows [] c.loop-j-test.true c.loop-j.invariant.0 (omega arith) (omega arith) c.loop-j.invariant.2,
-      place-below c.args.rows.now c.args.n c.args.row (omega arith) c.loop-j.rows c.loop-j.j c.loop-j-test.true c.loop-j.invariant.0 c.loop-j.invariant.2
-          (compared c.event_of-event.ensures c.event_of.ensures c.pops_before.ensures c.if-pops_before.true),
-    )
+loop-j-preserved c = (
+  omega arith,
+  simp length-set c.loop-j.invariant.1,
+  opening_down c.loop-j.j c.args.n c.args.rows.now c.loop-j.rows [] c.loop-j-test.true c.loop-j.invariant.0 (omega arith) (omega arith) c.loop-j.invariant.2,
+  place-below c.args.rows.now c.args.n c.args.row (omega arith) c.loop-j.rows c.loop-j.j c.loop-j-test.true c.loop-j.invariant.0 c.loop-j.invariant.2
+      (compared c.event_of-event.ensures c.event_of.ensures c.pops_before.ensures c.if-pops_before.true),
+)
 
 pub offset_bounds-rows-j-2 : goal.offset_bounds-rows-j-2
 offset_bounds-rows-j-2 c = omega (arith, c.well_formed.0.1)
@@ -50,13 +50,14 @@ shape_of-rows c = simp length-set c.loop-j.invariant.1
 pub returns : goal.returns
 returns c =
     let here : c.loop-j.j ≡ place c.args.rows.now c.args.n c.args.row =
-    ⊎_elim
-    (λ out. omega (arith, out.left, c.loop-j.invariant.3))
-    (λ at. omega (
-      arith,
-      c.loop-j.invariant.3,
-      place-above c.args.rows.now c.args.n c.args.row (omega arith) c.loop-j.rows c.loop-j.j at.0.taken c.loop-j.invariant.0 c.loop-j.invariant.2 c.requires.1
-          (compared c.event_of-event.ensures at.2.ensures at.3.ensures at.4.left),
-    ))
-    c.loop-j-test.branch in
+    elim c.loop-j-test.branch [
+      | else-loop-j-test w ↦ omega (arith, w.loop-j-test.false, c.loop-j.invariant.3)
+      | then-loop-j-test+else-pops_before w ↦
+          omega (
+            arith,
+            c.loop-j.invariant.3,
+            place-above c.args.rows.now c.args.n c.args.row (omega arith) c.loop-j.rows c.loop-j.j w.loop-j-test.true c.loop-j.invariant.0 c.loop-j.invariant.2 c.requires.1
+                (compared c.event_of-event.ensures w.event_of.ensures w.pops_before.ensures w.if-pops_before.false),
+          )
+    ] in
     placed c.args.rows.now c.args.n c.args.row (omega arith) c.loop-j.rows c.loop-j.j here (omega arith) c.loop-j.invariant.2

@@ -12,8 +12,8 @@ returns-then-a-b c = by_time _ _ (ne_eqb _ _ c.if-a-b.true)
 
 pub returns-then-i-j : goal.returns-then-i-j
 returns-then-i-j c =
-    rw (c.rank-i.ensures, c.rank-j.ensures) (by_rank _ _ (eq-eqb _ _ c.if-a-b.false) (rw (c.rank-i.ensures, c.rank-j.ensures) c.before (ne_eqb _ _ c.if-i-j.true)))
+    rw (c.rank-i.ensures, c.rank-j.ensures) (by_rank _ _ (eq-eqb _ _ c.if-a-b.false) (rw (c.rank-i.ensures, c.rank-j.ensures) at (ne_eqb _ _ c.if-i-j.true)))
 
 pub returns : goal.returns
 returns c =
-    rw (c.place_in_plan.ensures, c.place_in_plan-2.ensures) (by_place _ _ (eq-eqb _ _ c.if-a-b.false) (rw (c.rank-i.ensures, c.rank-j.ensures) c.before (eq-eqb _ _ c.if-i-j.false)))
+    rw (c.place_in_plan.ensures, c.place_in_plan-2.ensures) (by_place _ _ (eq-eqb _ _ c.if-a-b.false) (rw (c.rank-i.ensures, c.rank-j.ensures) at (eq-eqb _ _ c.if-i-j.false)))

@@ -33,10 +33,9 @@ loop-site-smaller c =
 
 pub loop-site-preserved : goal.loop-site-preserved
 loop-site-preserved c =
-    let is-due = sym c.is_due.ensures ∙ c.loop-site-test.true in
-    (
-      c.handle_event-s.auto.bytes ∙ c.loop-site.invariant.0,
-      c.handle_event-s.auto.1.1.0 ∙ c.loop-site.invariant.1,
+    let is-due = sym c.is_due.ensures ∙ c.loop-site-test.true in (
+      c.handle_event-s.auto.floats ∙ c.loop-site.invariant.0,
+      c.handle_event-s.auto.bytes ∙ c.loop-site.invariant.1,
       c.handle_event-s.ensures.fit,
       λ curves lens.
           due_more (plan_of c.args.site c.args.rows curves lens) _ _ _ _ _ c.first-event.ensures (rw c.first-event.ensures at is-due) (rw c.popped.ensures at (c.handle_event-s.ensures.state curves lens))

@@ -16,13 +16,12 @@ pub loop-c-smaller : goal.loop-c-smaller
 loop-c-smaller c = omega arith
 
 pub loop-c-preserved : goal.loop-c-preserved
-loop-c-preserved c =
-    (
-      omega arith,
-      c.release_if_finished-s.auto.bytes ∙ c.loop-c.invariant.1,
-      c.release_if_finished-s.auto.1.1.0 ∙ c.loop-c.invariant.2,
-      releasing_more _ _ _ _ _ _ c.loop-c.invariant.3 c.release_if_finished-s.ensures.released c.release_if_finished-s.ensures.others,
-    )
+loop-c-preserved c = (
+  omega arith,
+  c.release_if_finished-s.auto.floats ∙ c.loop-c.invariant.1,
+  c.release_if_finished-s.auto.bytes ∙ c.loop-c.invariant.2,
+  releasing_more _ _ _ _ _ _ c.loop-c.invariant.3 c.release_if_finished-s.ensures.released c.release_if_finished-s.ensures.others,
+)
 
 pub shape_of-floats : goal.shape_of-floats
 shape_of-floats c = c.loop-c.invariant.1

@@ -4,9 +4,6 @@ use Rattle.charger.proofs.waiting_queue.Part.{length_mapped}
 use Rattle.engine.proofs.plug_in.Handling.{profile_of, starts}
 use Rattle.engine.proofs.plug_in.start_charging.Goals as goal
 
-sessions-length : (s : goal.Start) → length s.args.simulation.sessions.all ≡ 64
-sessions-length s = search (rules, length_mapped)
-
 pub plugged-state-requires : goal.plugged-state-requires
 plugged-state-requires c =
     let small = profile_of _ c.requires.plan.profiles c.args.v in
@@ -22,11 +19,14 @@ with_session-requires c =
 
 pub returns : goal.returns
 returns c =
-    let long = sessions-length c.before in record { starts = starts c.args.site c.args.rows c.args.time c.args.v c.args.c c.requires.fit c.requires.there
+    let long : length c.args.simulation.sessions.all ≡ 64 = search (rules, length_mapped) in record {
+      starts = starts c.args.site c.args.rows c.args.time c.args.v c.args.c c.requires.fit c.requires.there
           (length-take-le _ _ (omega (arith, c.requires.fit.sound.sessions)))
           c.with_session.ensures
           c.store.ensures
           (c.started.ensures ∙ rw c.get_vehicle-car.ensures)
           (λ curves lens.
           c.plugged-state.ensures
-          ∙ rw (c.battery_of-battery.ensures, c.rated_of-power.ensures curves lens, c.get_vehicle-car.ensures)); others = c.store.ensures.other }
+          ∙ rw (c.battery_of-battery.ensures, c.rated_of-power.ensures curves lens, c.get_vehicle-car.ensures));
+      others = c.store.ensures.other;
+    }

@@ -4,6 +4,7 @@ use Rattle.charger.proofs.waiting_queue.Part.{length_mapped}
 use Rattle.engine.specs.Plan.{charger_at}
 use Rattle.engine.proofs.site.At.{at_inside, at_past}
 use Rattle.engine.proofs.site.charger_of.Goals as goal
+use Rattle.engine.proofs.site.charger_of.Goals.{then-c-count+else-c-lt32, else-c-count}
 
 pub returns-then-c-lt32 : goal.returns-then-c-lt32
 unfolding charger_at
@@ -16,5 +17,5 @@ unfolding charger_at
 returns c =
     let long : length c.args.chargers ≡ 32 = search (rules, length_mapped) in
     let past : length (take c.args.count c.args.chargers) ≤ c.args.c =
-    ⊎_elim (λ x. let h = x.1.left in simp length-take (omega arith)) (λ x. let h = x.left in simp length-take (omega arith)) c.if-c-count.branch in
+    elim c.if-c-count.branch [ then-c-count+else-c-lt32 w ↦ simp length-take (omega arith) | else-c-count w ↦ simp length-take (omega arith) ] in
     c.no_charger.ensures ∙ at_past c.args.chargers c.args.count c.args.c _ past

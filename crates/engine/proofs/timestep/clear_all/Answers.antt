@@ -17,13 +17,12 @@ pub loop-i-smaller : goal.loop-i-smaller
 loop-i-smaller c = omega arith
 
 pub loop-i-preserved : goal.loop-i-preserved
-loop-i-preserved c =
-    (
-      omega arith,
-      c.clear.auto.floats ∙ c.loop-i.invariant.1,
-      c.clear.auto.bytes ∙ c.loop-i.invariant.2,
-      cleared_more c.clear.ensures c.loop-i.invariant.3,
-    )
+loop-i-preserved c = (
+  omega arith,
+  c.clear.auto.floats ∙ c.loop-i.invariant.1,
+  c.clear.auto.bytes ∙ c.loop-i.invariant.2,
+  cleared_more c.clear.ensures c.loop-i.invariant.3,
+)
 
 pub shape_of-floats : goal.shape_of-floats
 shape_of-floats c = c.loop-i.invariant.1

@@ -6,15 +6,10 @@ use Rattle.charger.proofs.waiting_queue.Part.{length_mapped}
 use Rattle.engine.proofs.timestep.Ends.{some_pending, ended_none, ended_queued}
 use Rattle.engine.proofs.timestep.is_ended.Goals as goal
 
-events-length : (s : goal.Start) → length s.args.simulation.events.all ≡ 192
-events-length s = search (rules, length_mapped)
-
-queue-length : (s : goal.Start) → length s.args.simulation.queue.ids ≡ 64
-queue-length s = search (rules, length_mapped)
-
 pub returns-then-events : goal.returns-then-events
 returns-then-events c =
-    rw (some_pending c.args.simulation.events c.if-events.true (omega (arith, events-length c.before, c.requires.sound.events)))
+    let long : length c.args.simulation.events.all ≡ 192 = search (rules, length_mapped) in
+    rw (some_pending c.args.simulation.events c.if-events.true (omega (arith, c.requires.sound.events)))
 
 pub returns-then-queue-eq0 : goal.returns-then-queue-eq0
 returns-then-queue-eq0 c =
@@ -22,4 +17,5 @@ returns-then-queue-eq0 c =
 
 pub returns : goal.returns
 returns c =
-    ended_queued c.args.simulation.events c.args.simulation.queue (all_free (bank c.args.n c.args.floats.now c.args.bytes.now)) c.if-events.false (omega (arith, c.if-queue-eq0.false)) (omega (arith, queue-length c.before))
+    let long : length c.args.simulation.queue.ids ≡ 64 = search (rules, length_mapped) in
+    ended_queued c.args.simulation.events c.args.simulation.queue (all_free (bank c.args.n c.args.floats.now c.args.bytes.now)) c.if-events.false (omega (arith, c.if-queue-eq0.false)) (omega arith)

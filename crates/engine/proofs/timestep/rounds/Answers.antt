@@ -33,14 +33,13 @@ loop-at-smaller c =
     omega (arith, c.turn-turned.ensures.later, c.turn-turned.ensures.within, c.loop-at.invariant.3)
 
 pub loop-at-preserved : goal.loop-at-preserved
-loop-at-preserved c =
-    (
-      c.turn-turned.auto.bytes ∙ c.loop-at.invariant.0,
-      c.turn-turned.auto.1.1.0 ∙ c.loop-at.invariant.1,
-      refl,
-      refl,
-      going_on _ _ _ _ _ _ _ c.loop-at.invariant.4 refl c.turn-turned.ensures,
-    )
+loop-at-preserved c = (
+  c.turn-turned.auto.floats ∙ c.loop-at.invariant.0,
+  c.turn-turned.auto.bytes ∙ c.loop-at.invariant.1,
+  refl,
+  refl,
+  going_on _ _ _ _ _ _ _ c.loop-at.invariant.4 refl c.turn-turned.ensures,
+)
 
 pub is_ended-over-requires : goal.is_ended-over-requires
 is_ended-over-requires c =

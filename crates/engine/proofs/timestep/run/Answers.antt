@@ -10,12 +10,6 @@ use Rattle.engine.proofs.timestep.InOrder.{ordered}
 use Rattle.engine.proofs.timestep.LoopRun.{finishes}
 use Rattle.engine.proofs.timestep.run.Goals as goal
 
-chargers-length : (s : goal.Start) → length s.args.site.chargers ≡ 32
-chargers-length s = search (rules, length_mapped)
-
-few : (s : goal.Start) → length (take s.args.site.count s.args.site.chargers) ≡ s.args.site.count
-few s = length-take-le _ _ (omega (arith, chargers-length s, s.requires.plan.few))
-
 pub rounds-requires : goal.rounds-requires
 rounds-requires c =
     let ids : length c.new-start.result.queue.ids ≡ 64 = search (length_mapped, c.new-start.type_inv.1.1.1.0) in
@@ -23,6 +17,8 @@ rounds-requires c =
 
 pub returns : goal.returns
 returns c =
+    let long : length c.args.site.chargers ≡ 32 = search (rules, length_mapped) in
+    let few : length (take c.args.site.count c.args.site.chargers) ≡ c.args.site.count = length-take-le _ _ (omega (arith, c.requires.plan.few)) in
     let p = plan_of c.args.site c.args.rows c.args.curves.now c.args.lens.now in
-    let done = finishes p c.args.site.count c.args.allowance (few c.before) c.new-start.ensures c.clear_all.ensures c.rounds.ensures in
+    let done = finishes p c.args.site.count c.args.allowance few c.new-start.ensures c.clear_all.ensures c.rounds.ensures in
     record { done = done; order = subst (λ (m : State). Ordered m.site.pending) (sym done.state) (ordered p c.args.allowance) }

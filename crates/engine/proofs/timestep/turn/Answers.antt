@@ -19,7 +19,7 @@ returns-then-is_ended c =
 
 pub spin-requires : goal.spin-requires
 spin-requires c =
-    record { room = room_kept c.requires.room c.handle_due-s.auto.bytes c.handle_due-s.auto.1.1.0; plan = c.requires.plan; fit = c.handle_due-s.ensures.fit; before = c.requires.before; none = c.handle_due-s.ensures.none; going = sym c.is_ended.ensures ∙ c.if-is_ended.false; rising = c.requires.rising }
+    record { room = room_kept c.requires.room c.handle_due-s.auto.floats c.handle_due-s.auto.bytes; plan = c.requires.plan; fit = c.handle_due-s.ensures.fit; before = c.requires.before; none = c.handle_due-s.ensures.none; going = sym c.is_ended.ensures ∙ c.if-is_ended.false; rising = c.requires.rising }
 
 pub returns : goal.returns
 returns c =

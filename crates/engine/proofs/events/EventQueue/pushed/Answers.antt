@@ -4,6 +4,7 @@ use Rattle.charger.proofs.waiting_queue.Part.{seek_here, seek_on, seek_end, Open
 use Rattle.engine.specs.Events.{arrival, before}
 use Rattle.engine.proofs.events.Push.{push_inserted}
 use Rattle.engine.proofs.events.EventQueue.pushed.Goals as goal
+use Rattle.engine.proofs.events.EventQueue.pushed.Goals.{else-loop-at-test, then-loop-at-test+then-pops_before}
 
 pub loop-at-init : goal.loop-at-init
 loop-at-init c = (search (rules, length_mapped), search rules, search rules, refl)
@@ -20,11 +21,12 @@ loop-at-preserved c =
 pub loop-j-init : goal.loop-j-init
 loop-j-init c =
     let here : seek (before c.args.e) (part c.loop-at.at c.args.self.tail c.args.self.all) ≡ 0 =
-    ⊎_elim
-    (λ out. seek_end (before c.args.e) c.args.self.all c.loop-at.at c.args.self.tail (arrival 0 0) out.left)
-    (λ at. seek_here (before c.args.e) c.args.self.all c.loop-at.at c.args.self.tail (arrival 0 0) at.0.taken (omega (arith, at.0.taken, c.loop-at.invariant.0, c.loop-at.invariant.2))
-    (sym at.2.ensures ∙ at.3.taken))
-    c.loop-at-test.branch in (
+    elim c.loop-at-test.branch [
+      | else-loop-at-test w ↦ seek_end (before c.args.e) c.args.self.all c.loop-at.at c.args.self.tail (arrival 0 0) w.loop-at-test.false
+      | then-loop-at-test+then-pops_before w ↦
+          seek_here (before c.args.e) c.args.self.all c.loop-at.at c.args.self.tail (arrival 0 0) w.loop-at-test.true (omega (arith, w.loop-at-test.true, c.loop-at.invariant.0, c.loop-at.invariant.2))
+          (sym w.pops_before.ensures ∙ w.if-pops_before.true)
+    ] in (
       c.loop-at.invariant.0,
       c.loop-at.invariant.0,
       c.loop-at.invariant.1,
@@ -36,24 +38,23 @@ loop-j-init c =
     )
 
 pub loop-j-preserved : goal.loop-j-preserved
-loop-j-preserved c =
-    (
-      c.loop-j.invariant.0,
-      simp length-set c.loop-j.invariant.1,
-      search rules,
-      search rules,
-      c.loop-j.invariant.4,
-      opening_down c.loop-j.j c.args.self.tail c.args.self.all c.loop-j.q.all (arrival 0 0) (omega arith) (omega arith) (omega arith) (omega arith) c.loop-j.invariant.5,
-      c.loop-j.invariant.6,
-      c.loop-j.invariant.7,
-    )
+loop-j-preserved c = (
+  c.loop-j.invariant.0,
+  simp length-set c.loop-j.invariant.1,
+  search rules,
+  search rules,
+  c.loop-j.invariant.4,
+  opening_down c.loop-j.j c.args.self.tail c.args.self.all c.loop-j.q.all (arrival 0 0) (omega arith) (omega arith) (omega arith) (omega arith) c.loop-j.invariant.5,
+  c.loop-j.invariant.6,
+  c.loop-j.invariant.7,
+)
 
 pub returns : goal.returns
 returns c =
     let here : c.loop-j.j ≡ c.loop-at.at = omega arith in (
       ap (λ (h : ℕ). part h (c.args.self.tail + 1) (set c.loop-j.q.all c.loop-at.at c.args.e)) c.loop-j.invariant.6
           ∙ push_inserted c.args.self.all c.args.self.head c.args.self.tail c.args.e c.requires.0 (omega arith) c.loop-at.at (set c.loop-j.q.all c.loop-at.at c.args.e) c.loop-j.invariant.7
-          (opening_set c.loop-at.at c.args.self.tail c.args.self.all c.loop-j.q.all c.args.e (omega arith) (omega arith) (rw here c.loop-at.at c.loop-j.invariant.5)),
+          (opening_set c.loop-at.at c.args.self.tail c.args.self.all c.loop-j.q.all c.args.e (omega arith) (omega arith) (rw here at c.loop-j.invariant.5)),
       c.loop-j.invariant.6,
       refl,
     )

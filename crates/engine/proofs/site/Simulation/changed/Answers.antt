@@ -1,4 +1,3 @@
-
 use Rattle.std.proofs.Common.{ap, arith, rules}
 use Rattle.engine.specs.Code.Simulation.{writes}
 use Rattle.engine.proofs.site.Simulations.{wrote_nothing, wrote_session}
