@@ -1,8 +1,7 @@
-use Rattle.std.proofs.Common.{◌+◌, ◌/◌, ◌<◌, length, ◌∙◌, arith}
+use Rattle.std.proofs.Common.{◌∙◌, arith}
 use Rattle.curve.proofs.charge_profile.Segments.{reached_from_lem}
 use Rattle.curve.proofs.points.Rising.{reached_past}
 use Rattle.curve.proofs.points.reached_rising.Goals as goal
-use Rattle.curve.proofs.points.reached_rising.Goals.{then-not-soc-curve, else-not-soc-curve}
 
 pub loop-left-init : goal.loop-left-init
 loop-left-init c = (omega arith, omega arith)
@@ -19,9 +18,6 @@ bounds-curve-passed c = omega arith
 pub bounds-curve-0 : goal.bounds-curve-0
 bounds-curve-0 c = omega arith
 
-pub overflow_add-passed-then-not-soc-curve : goal.overflow_add-passed-then-not-soc-curve
-overflow_add-passed-then-not-soc-curve c = omega arith
-
 pub overflow_sub-left : goal.overflow_sub-left
 overflow_sub-left c = omega arith
 
@@ -29,13 +25,7 @@ pub loop-left-smaller : goal.loop-left-smaller
 loop-left-smaller c = omega arith
 
 pub loop-left-preserved : goal.loop-left-preserved
-loop-left-preserved c =
-    let middle = c.loop-left.passed + c.loop-left.left / 2 in
-    let inside : middle < length c.args.curve.now = omega arith in
-    elim c.if-not-soc-curve.branch [
-      | then-not-soc-curve w ↦ (omega arith, omega (arith, reached_past c.args.soc c.args.curve.now middle c.requires inside w.if-not-soc-curve.true))
-      | else-not-soc-curve w ↦ (omega arith, omega arith)
-    ]
+loop-left-preserved c = grind (arith, reached_past)
 
 pub reached_from-requires : goal.reached_from-requires
 reached_from-requires c = omega arith
