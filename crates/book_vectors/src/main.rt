@@ -4,8 +4,9 @@
 #![tactic(auto)]
 
 use book_reader::numbers::read_numbers;
-use libc::{STDERR_FILENO, STDIN_FILENO, STDOUT_FILENO};
+use reading::read_full;
 use recorded::{answer_bytes, at_most, change, mixed, u16_at};
+use std::io;
 
 fn digest(s: &[u64]) -> u64 {
     let mut sum: u64 = 0;
@@ -17,33 +18,28 @@ fn digest(s: &[u64]) -> u64 {
     sum
 }
 
-fn write_answer(numbers: [u64; 11], header: u64, sessions: u64) {
-    let out = answer_bytes(numbers, header, sessions);
-    if !io::write_all(STDOUT_FILENO, &out) {
-        io::write_all(
-            STDERR_FILENO,
-            b"book_vectors: cannot write standard output\n",
-        );
-    }
+fn write_answer(rt: &impl Print, numbers: [u64; 11], header: u64, sessions: u64) -> io::Result<()> {
+    rt.write_all(&answer_bytes(numbers, header, sessions))
 }
 
 // Makes the call that the record has at `at`, writes its answer, and gives the place behind it.
 fn replay_call(
+    rt: &impl Print,
     recorded: &[u8],
     at: usize,
     book: &mut [u8],
     header: &mut [u64; 4],
     sessions: &mut [u64; 1024],
-) -> usize {
-    let next = change(book, recorded, std::num::wrapping_add_usize(at, 4));
+) -> io::Result<usize> {
+    let next = change(book, recorded, at.wrapping_add(4));
     let n = at_most(u16_at(recorded, at), book.len());
     let numbers = read_numbers(&book[..n], header, sessions);
-    write_answer(numbers, digest(header), digest(sessions));
-    next
+    write_answer(rt, numbers, digest(header), digest(sessions))?;
+    Ok(next)
 }
 
 // The numbers that a refused call leaves alone are sevens at first.
-fn replay(recorded: &[u8]) {
+fn replay(rt: &impl Print, recorded: &[u8]) -> io::Result<()> {
     let mut book = [0u8; 7680];
     let mut header = [7u64; 4];
     let mut sessions = [7u64; 1024];
@@ -51,13 +47,14 @@ fn replay(recorded: &[u8]) {
     let mut at: usize = 4;
     let mut k: usize = 0;
     while k < calls {
-        at = replay_call(recorded, at, &mut book, &mut header, &mut sessions);
+        at = replay_call(rt, recorded, at, &mut book, &mut header, &mut sessions)?;
         k += 1;
     }
+    Ok(())
 }
 
-fn main() {
+fn main(rt: HostRuntime) -> io::Result<()> {
     let mut record = [0u8; 65536];
-    let n = io::read_full(STDIN_FILENO, &mut record);
-    replay(&record[..n]);
+    let n = read_full(&mut rt.stdin(), &mut record)?;
+    replay(&rt, &record[..n])
 }

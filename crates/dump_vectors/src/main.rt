@@ -7,10 +7,11 @@
 use dump::call;
 use dump::resume::resume;
 use late_booking::late::book_late;
-use libc::{STDERR_FILENO, STDIN_FILENO, STDOUT_FILENO};
 use plan::answer::{check_numbers, run_numbers};
 use plan::bytes::put;
+use reading::read_full;
 use recorded::{answer_bytes, at_most, byte_at, change, mixed, u16_at, u32_at};
+use std::io;
 
 // Of a call: 0 for dump, 1 for continue and 2 for late booking, its numbers, and the lengths of what is lent.
 #[derive(Clone, Copy)]
@@ -26,11 +27,11 @@ struct Call {
 fn call_at(recorded: &[u8], at: usize) -> Call {
     Call {
         kind: byte_at(recorded, at),
-        engine: u32_at(recorded, std::num::wrapping_add_usize(at, 1)),
-        units: u32_at(recorded, std::num::wrapping_add_usize(at, 5)),
-        book: u16_at(recorded, std::num::wrapping_add_usize(at, 9)),
-        dump: u16_at(recorded, std::num::wrapping_add_usize(at, 13)),
-        plan: u16_at(recorded, std::num::wrapping_add_usize(at, 17)),
+        engine: u32_at(recorded, at.wrapping_add(1)),
+        units: u32_at(recorded, at.wrapping_add(5)),
+        book: u16_at(recorded, at.wrapping_add(9)),
+        dump: u16_at(recorded, at.wrapping_add(13)),
+        plan: u16_at(recorded, at.wrapping_add(17)),
     }
 }
 
@@ -60,20 +61,17 @@ fn digest(s: &[u8]) -> u64 {
     sum
 }
 
-fn write(bytes: &[u8]) {
-    if !io::write_all(STDOUT_FILENO, bytes) {
-        io::write_all(
-            STDERR_FILENO,
-            b"dump_vectors: cannot write standard output\n",
-        );
-    }
-}
-
-fn write_answer(numbers: [u64; 11], book: u64, dump: u64, new: u64) {
-    write(&answer_bytes(numbers, book, dump));
+fn write_answer(
+    rt: &impl Print,
+    numbers: [u64; 11],
+    book: u64,
+    dump: u64,
+    new: u64,
+) -> io::Result<()> {
+    rt.write_all(&answer_bytes(numbers, book, dump))?;
     let mut last = [0u8; 8];
     put(&mut last, 0, 8, new);
-    write(&last);
+    rt.write_all(&last)
 }
 
 // Makes the call, on the first bytes of the buffers of plan and dump.
@@ -95,6 +93,7 @@ fn make_call(
 
 // Makes the call that the record has at `at`, writes its answer, and gives the place behind it.
 fn replay_call(
+    rt: &impl Print,
     recorded: &[u8],
     at: usize,
     plan: &mut [u8],
@@ -102,17 +101,17 @@ fn replay_call(
     dump: &mut [u8],
     car: &mut [u8],
     new: &mut [u8],
-) -> usize {
+) -> io::Result<usize> {
     let c = call_at(recorded, at);
-    let changed = change(plan, recorded, std::num::wrapping_add_usize(at, 21));
+    let changed = change(plan, recorded, at.wrapping_add(21));
     let dumped = change(dump, recorded, changed);
     let next = change(car, recorded, dumped);
     let numbers = make_call(c, plan, book, dump, car, new);
-    write_answer(numbers, digest(book), digest(dump), digest(new));
-    next
+    write_answer(rt, numbers, digest(book), digest(dump), digest(new))?;
+    Ok(next)
 }
 
-fn replay(recorded: &[u8]) {
+fn replay(rt: &impl Print, recorded: &[u8]) -> io::Result<()> {
     let mut plan = [0u8; 65536];
     let mut book = [0u8; 7680];
     let mut dump = [0u8; 16640];
@@ -123,14 +122,15 @@ fn replay(recorded: &[u8]) {
     let mut k: usize = 0;
     while k < calls {
         at = replay_call(
-            recorded, at, &mut plan, &mut book, &mut dump, &mut car, &mut new,
-        );
+            rt, recorded, at, &mut plan, &mut book, &mut dump, &mut car, &mut new,
+        )?;
         k += 1;
     }
+    Ok(())
 }
 
-fn main() {
+fn main(rt: HostRuntime) -> io::Result<()> {
     let mut record = [0u8; 65536];
-    let n = io::read_full(STDIN_FILENO, &mut record);
-    replay(&record[..n]);
+    let n = read_full(&mut rt.stdin(), &mut record)?;
+    replay(&rt, &record[..n])
 }

@@ -25,7 +25,7 @@ pub fn byte_at(recorded: &[u8], k: usize) -> usize
 pub fn u16_at(recorded: &[u8], k: usize) -> usize
     ensures { result < 65536 }
 {
-    byte_at(recorded, k) + 256 * byte_at(recorded, std::num::wrapping_add_usize(k, 1))
+    byte_at(recorded, k) + 256 * byte_at(recorded, k.wrapping_add(1))
 }
 
 fn put_byte(buffer: &mut [u8], to: usize, recorded: &[u8], from: usize) {
@@ -40,13 +40,8 @@ fn put_byte(buffer: &mut [u8], to: usize, recorded: &[u8], from: usize) {
 fn put(buffer: &mut [u8], place: usize, recorded: &[u8], at: usize, count: usize) {
     let mut i: usize = 0;
     while i < count {
-        let from = std::num::wrapping_add_usize(at, i);
-        put_byte(
-            buffer,
-            std::num::wrapping_add_usize(place, i),
-            recorded,
-            from,
-        );
+        let from = at.wrapping_add(i);
+        put_byte(buffer, place.wrapping_add(i), recorded, from);
         i += 1;
     }
 }
@@ -54,20 +49,20 @@ fn put(buffer: &mut [u8], place: usize, recorded: &[u8], at: usize, count: usize
 // The little-endian number in the four bytes from k.
 pub fn u32_at(recorded: &[u8], k: usize) -> u32 {
     let low = u16_at(recorded, k) as u32;
-    low + 65536 * u16_at(recorded, std::num::wrapping_add_usize(k, 2)) as u32
+    low + 65536 * u16_at(recorded, k.wrapping_add(2)) as u32
 }
 
 // Makes the changes that the record has from `at` on, and gives the place behind them: their 16-bit number, and for each a 16-bit place,
 // a byte count, and as many bytes.
 pub fn change(buffer: &mut [u8], recorded: &[u8], at: usize) -> usize {
     let changes = u16_at(recorded, at);
-    let mut k = std::num::wrapping_add_usize(at, 2);
+    let mut k = at.wrapping_add(2);
     let mut i: usize = 0;
     while i < changes {
-        let count = byte_at(recorded, std::num::wrapping_add_usize(k, 2));
-        let from = std::num::wrapping_add_usize(k, 3);
+        let count = byte_at(recorded, k.wrapping_add(2));
+        let from = k.wrapping_add(3);
         put(buffer, u16_at(recorded, k), recorded, from, count);
-        k = std::num::wrapping_add_usize(from, count);
+        k = from.wrapping_add(count);
         i += 1;
     }
     k
@@ -81,13 +76,13 @@ pub fn at_most(n: usize, most: usize) -> usize
 }
 
 fn doubled(x: u64) -> u64 {
-    std::num::wrapping_add_u64(x, x)
+    x.wrapping_add(x)
 }
 
 // A digest that goes by every number and by their order, with one number more: 31 times the one so far, and the number.
 pub fn mixed(sum: u64, x: u64) -> u64 {
     let times32 = doubled(doubled(doubled(doubled(doubled(sum)))));
-    std::num::wrapping_add_u64(std::num::wrapping_sub_u64(times32, sum), x)
+    times32.wrapping_sub(sum).wrapping_add(x)
 }
 
 // The numbers of a call and the digests of its two buffers, eight bytes each.

@@ -1,4 +1,4 @@
-// Sums up a book: standard input, a line of its totals, standard output. A read or a write that fails is said on standard error.
+// Sums up a book: standard input, a line of its totals, standard output. A read or a write that fails ends it with the error.
 #![tactic(auto)]
 
 ghost use Rattle.std.specs.Prelude.{◌≡◌, take};
@@ -8,9 +8,9 @@ ghost use Rattle.totals.specs.Output.{totals_numbers, output};
 
 use book_reader::totals::{BookTotals, TotalsAnswer, totals};
 use curve::float::to_bits;
-use libc::{STDERR_FILENO, STDIN_FILENO, STDOUT_FILENO};
 use plan::answer::{Answer, check_numbers};
 use program::put_line;
+use reading::read_full;
 
 fn totals_numbers(t: BookTotals) -> [u64; 7]
     ensures { result ≡ totals_numbers t }
@@ -46,20 +46,11 @@ fn reply(book: &[u8], out: &mut [u8; 147]) -> usize
     }
 }
 
-// A book has at most 7,168 bytes: of a longer input enough is read to see that it is longer. Of a shorter one nothing may be left.
-fn main() {
+// A book has at most 7,168 bytes: of a longer input enough is read to see that it is longer.
+fn main(rt: HostRuntime) -> std::io::Result<()> {
     let mut input = [0u8; 7169];
-    let n = io::read_full(STDIN_FILENO, &mut input);
-    if n < 7169 {
-        let mut more = [0u8; 1];
-        if libc::read(STDIN_FILENO, &mut more) != 0 {
-            io::write_all(STDERR_FILENO, b"totals: cannot read standard input\n");
-            return;
-        }
-    }
+    let n = read_full(&mut rt.stdin(), &mut input)?;
     let mut out = [0u8; 147];
     let k = reply(&input[..n], &mut out);
-    if !io::write_all(STDOUT_FILENO, &out[..k]) {
-        io::write_all(STDERR_FILENO, b"totals: cannot write standard output\n");
-    }
+    rt.write_all(&out[..k])
 }

@@ -4,35 +4,35 @@
 
 ghost use Rattle.std.specs.Prelude.{◌≤◌, length};
 
-use libc::{STDERR_FILENO, STDIN_FILENO, STDOUT_FILENO};
+use reading::read_full;
 use recorded::{change, u16_at};
+use std::io;
 
 // Writes what the program writes for the first `count` bytes.
-fn answer_first(buffer: &[u8], count: usize)
+fn answer_first(rt: &impl Print, buffer: &[u8], count: usize) -> io::Result<()>
     requires { count ≤ length buffer.now }
 {
     let mut out = [0u8; 7168];
     let n = program::reply(&buffer[..count], &mut out);
-    if !io::write_all(STDOUT_FILENO, &out[..n]) {
-        io::write_all(STDERR_FILENO, b"vectors: cannot write standard output\n");
-    }
+    rt.write_all(&out[..n])
 }
 
-fn replay(recorded: &[u8]) {
+fn replay(rt: &impl Print, recorded: &[u8]) -> io::Result<()> {
     let mut buffer = [0u8; 65536];
     let inputs = u16_at(recorded, 0);
     let mut at: usize = 4;
     let mut k: usize = 0;
     while k < inputs {
         let count = u16_at(recorded, at);
-        at = change(&mut buffer, recorded, std::num::wrapping_add_usize(at, 4));
-        answer_first(&buffer, count);
+        at = change(&mut buffer, recorded, at.wrapping_add(4));
+        answer_first(rt, &buffer, count)?;
         k += 1;
     }
+    Ok(())
 }
 
-fn main() {
+fn main(rt: HostRuntime) -> io::Result<()> {
     let mut record = [0u8; 262144];
-    let n = io::read_full(STDIN_FILENO, &mut record);
-    replay(&record[..n]);
+    let n = read_full(&mut rt.stdin(), &mut record)?;
+    replay(&rt, &record[..n])
 }
