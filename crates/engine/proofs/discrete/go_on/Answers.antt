@@ -1,4 +1,4 @@
-use Rattle.std.proofs.Common.{◌≡◌, ℕ, ◌+◌, ◌*◌, ◌^◌, ◌<◌, ◌≤◌, Bool, List, [], ◌∷◌, ◌++◌, Float, length, get_or, take, set, sym, refl, ap, ◌∙◌, subst, arith, length-set, length-take, length-take-le, rules}
+use Rattle.std.proofs.Common.{◌≡◌, ℕ, ◌+◌, ◌^◌, ◌<◌, ◌≤◌, Bool, List, ◌∷◌, Float, length, get_or, take, set, sym, refl, ap, ◌∙◌, subst, arith, length-set, length-take, length-take-le, rules}
 use Rattle.charger.specs.Vehicle.{no_vehicle}
 use Rattle.charger.specs.Code.Vehicles.{listed}
 use Rattle.charger.specs.Lists.{tick, All}
@@ -63,9 +63,6 @@ module _ (site : Site) (rows : List (List Bool)) (curves : List (List Float)) (l
       (ap (λ (m : D.State). m.site.pending) (sym same) ∙ part_end events.all events.head events.tail none))
 
   module _ (some : events.head < events.tail) where
-    inside : events.head < 192
-    inside = omega (arith, some, sound.events)
-
     first : pending events ≡ event ∷ pending (behind_first events)
     first = part_next events.all events.head events.tail (arrival 0 0) some (omega (arith, some, sound.events, whole.events))
 
@@ -111,10 +108,6 @@ module _ (site : Site) (rows : List (List Bool)) (curves : List (List Float)) (l
           (wrote state.simulation event first planned site.count chargers-count places r does x d _
           refl refl refl (take-set sessions.all sessions.len x (omega (arith, room-for-one one, whole.sessions))))
           refl
-
-      -- who plugs in is one of the plan's vehicles
-      car-there : (v c : ℕ) → r.action ≡ Action.PlugsIn v c → v < length (listed site.vehicles)
-      car-there v c d = does.there v c d
 
       next-plugs : (v c : ℕ) (d : r.action ≡ Action.PlugsIn v c) (x : Session) → x ≡ charged_session planned event.time v c
           → (more : EventQueue) → pending more ≡ push (unplug x.unplug v c) (pending (behind_first events)) → more.head ≡ events.head + 1

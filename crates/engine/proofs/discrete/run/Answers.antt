@@ -2,13 +2,9 @@
 use Rattle.std.proofs.Common.{◌≡◌, ◌+◌, length, sym, ap, ◌∙◌, arith, length-take-le, rules}
 use Rattle.charger.proofs.waiting_queue.Part.{length_mapped}
 use Rattle.engine.specs.Discrete.{run}
-use Rattle.engine.specs.Code.Simulation.{plan_of, model, Sound, pending}
+use Rattle.engine.specs.Code.Simulation.{plan_of}
 use Rattle.engine.proofs.discrete.EventStates.{begins}
 use Rattle.engine.proofs.discrete.run.Goals as goal
-
-pub new-requires : goal.new-requires
-new-requires c =
-    (c.requires.0.0, c.requires.1)
 
 pub go_on-requires : goal.go_on-requires
 go_on-requires c =
