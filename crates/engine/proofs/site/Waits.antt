@@ -12,7 +12,7 @@ use Rattle.engine.specs.declared.session.Session.{Session}
 use Rattle.engine.specs.declared.session.Outcome.{Outcome}
 use Rattle.engine.specs.declared.session.Outcome.TheVariants.{Open}
 use Rattle.engine.specs.Plan.{Plan, vehicle, fits, stay}
-use Rattle.engine.specs.Events.{arrival, unplug, push, Ordered, least, generate}
+use Rattle.engine.specs.Events.{unplug, push, Ordered, least, generate}
 use Rattle.power.specs.declared.charger_state.ChargerState.{ChargerState}
 use Rattle.engine.specs.SiteState.{SiteState, initial, below, start_charging, uncharged, balks as balks_at, with_pending, turned_away, available, arrived, reneged, passed_on, release, handle, popped}
 use Rattle.engine.specs.Discrete.{State, charged_session, run}

@@ -1,7 +1,7 @@
 -- The events due come first: after them a round, or a run of rounds, is the same as from the state before.
 use Rattle.std.proofs.Common.{◌≡◌, ℕ, suc, ◌+◌, ◌<◌, Bool, true, false, cond, leb, List, [], ◌∷◌, sym, refl, ap, ◌∙◌, arith, leb-false}
 use Rattle.engine.specs.declared.events.Event.{Event}
-use Rattle.engine.specs.Plan.{Plan, vehicle}
+use Rattle.engine.specs.Plan.{Plan}
 use Rattle.engine.specs.SiteState.{SiteState, with_pending, popped}
 use Rattle.power.specs.declared.charger_state.ChargerState.{ChargerState}
 use Rattle.engine.specs.Timestep.{State, steps, due, round, ended, after}

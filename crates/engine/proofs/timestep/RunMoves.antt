@@ -6,7 +6,7 @@ use Rattle.engine.specs.declared.events.EventType.TheVariants.{Arrival, Renege, 
 use Rattle.charger.specs.First.{Found, nobody, found, first}
 use Rattle.charger.proofs.Lists.{by_cond, by_test}
 use Rattle.engine.specs.Demand.{Kept, sessions_with, yet_to_arrive}
-use Rattle.engine.specs.Plan.{Plan, fits, vehicle}
+use Rattle.engine.specs.Plan.{Plan, fits}
 use Rattle.engine.specs.SiteState.{SiteState, below, balks, with_queue, with_pending, turned_away, start_charging, available, arrived, reneged, passed_on, handle, popped, initial, release}
 use Rattle.engine.proofs.site.Moves.{progresses, Moves, none, then, moves_trans, released, pops}
 use Rattle.engine.proofs.site.Laws.{Lawful, Settled, spots_in}

@@ -10,7 +10,6 @@ use Rattle.charger.specs.Code.Queue.{part, waiting}
 use Rattle.charger.specs.Vehicle.{compatible}
 use Rattle.charger.specs.Code.Vehicles.{listed}
 use Rattle.engine.specs.declared.discrete.Action.{Action}
-use Rattle.engine.specs.declared.discrete.Action.TheVariants as Action
 use Rattle.engine.specs.declared.discrete.Effect.{Effect}
 use Rattle.engine.specs.declared.discrete.State.{State}
 use Rattle.engine.specs.declared.events.Event.{Event}

@@ -1,7 +1,6 @@
 -- `engine::discrete::charge` meets its contract. Assumes nothing.
 use Rattle.engine.specs.Plan.{rated, output}
 use Rattle.engine.specs.Code.Simulation.{plan_of}
-use Rattle.std.proofs.Common.{rules}
 use Rattle.engine.proofs.discrete.EventStates.{session_of_lem}
 use Rattle.engine.proofs.discrete.charge.Goals as goal
 

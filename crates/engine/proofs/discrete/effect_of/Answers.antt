@@ -1,4 +1,3 @@
-use Rattle.std.proofs.Common.{rules}
 use Rattle.engine.proofs.discrete.effect_of.Goals as goal
 
 pub returns-in-Nothing : goal.returns-in-Nothing

@@ -1,4 +1,4 @@
-use Rattle.std.proofs.Common.{◌≡◌, ℕ, ◌-◌, ◌<◌, ◌≤◌, false, eqb, length, get_or, refl, arith, length-set, rules}
+use Rattle.std.proofs.Common.{eqb, get_or, refl, arith, length-set, rules}
 use Rattle.engine.proofs.plug_in.Handling.{flags_more}
 use Rattle.engine.proofs.discrete.free_of.Goals as goal
 

@@ -1,6 +1,5 @@
 -- `engine::discrete::free_of` meets its contract. The loop's invariant: the flags before c say who is free. Assumes nothing.
-use Rattle.std.proofs.Common.{◌≡◌, ℕ, ◌-◌, ◌<◌, ◌≤◌, false, eqb, length, get_or, refl, arith, length-set, rules}
-use Rattle.engine.proofs.plug_in.Handling.{flags_more}
+use Rattle.std.proofs.Common.{◌≡◌, ℕ, ◌-◌, ◌<◌, ◌≤◌, false, eqb, length, get_or}
 use Rattle.engine.proofs.discrete.free_of.Given as goal
 
 abbrev pub invariant-loop-c : goal.invariant-loop-c

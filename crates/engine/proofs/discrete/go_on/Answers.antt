@@ -132,20 +132,21 @@ returns-then-events-head-clause-order c =
     c.loop-i.invariant.1 c.loop-i.invariant.2 c.loop-i.invariant.3)
 
 pub handle-effect-requires : goal.handle-effect-requires
-handle-effect-requires c =
-    (handles c.args.site c.args.rows c.args.curves.now c.args.lens.now (search (rules, length_mapped)) c.requires.0 c.args.state.simulation.events.head c.loop-i.i c.loop-i.events c.loop-i.queue c.loop-i.sessions c.loop-i.places
-    c.loop-i.invariant.1 c.loop-i.invariant.2 c.loop-i.invariant.3 c.if-events-head.false, c.requires.0.0.1)
+handle-effect-requires c = (
+  handles c.args.site c.args.rows c.args.curves.now c.args.lens.now (search (rules, length_mapped)) c.requires.0 c.args.state.simulation.events.head c.loop-i.i c.loop-i.events c.loop-i.queue c.loop-i.sessions c.loop-i.places
+      c.loop-i.invariant.1 c.loop-i.invariant.2 c.loop-i.invariant.3 c.if-events-head.false,
+  c.requires.0.0.1,
+)
 
 pub loop-i-preserved-in-Nothing : goal.loop-i-preserved-in-Nothing
 loop-i-preserved-in-Nothing c =
     let fits : (c.loop-i.events.tail + adds c.handle-effect.result.action ≤ 192) × (c.loop-i.sessions.len + adds c.handle-effect.result.action + c.handle-effect.result.queue.len ≤ 64) = room c.args.site c.args.rows c.args.curves.now c.args.lens.now (search (rules, length_mapped)) c.requires.0 c.args.state.simulation.events.head c.loop-i.i c.loop-i.events c.loop-i.queue c.loop-i.sessions c.loop-i.places
-    c.loop-i.invariant.1 c.loop-i.invariant.2 c.loop-i.invariant.3 c.if-events-head.false c.handle-effect.result c.handle-effect.ensures in
-    (
+    c.loop-i.invariant.1 c.loop-i.invariant.2 c.loop-i.invariant.3 c.if-events-head.false c.handle-effect.result c.handle-effect.ensures in (
       omega arith,
       record { order = omega (arith, c.if-events-head.false); events = c.loop-i.invariant.1.events; queued = omega (arith, fits); sessions = c.loop-i.invariant.1.sessions },
       record { events = c.loop-i.invariant.2.events; queue = search (length_mapped, c.handle-effect.type_inv.1.1.0); sessions = c.loop-i.invariant.2.sessions },
       next-nothing c.args.site c.args.rows c.args.curves.now c.args.lens.now (search (rules, length_mapped)) c.requires.0 c.args.state.simulation.events.head c.loop-i.i c.loop-i.events c.loop-i.queue c.loop-i.sessions c.loop-i.places
-    c.loop-i.invariant.1 c.loop-i.invariant.2 c.loop-i.invariant.3 c.if-events-head.false c.handle-effect.result c.handle-effect.ensures c.in-Nothing.is,
+          c.loop-i.invariant.1 c.loop-i.invariant.2 c.loop-i.invariant.3 c.if-events-head.false c.handle-effect.result c.handle-effect.ensures c.in-Nothing.is,
     )
 
 pub bounds-sessions-at : goal.bounds-sessions-at
@@ -157,23 +158,21 @@ pub loop-i-preserved-in-Books : goal.loop-i-preserved-in-Books
 loop-i-preserved-in-Books c =
     let fits : (c.loop-i.events.tail + adds c.handle-effect.result.action ≤ 192) × (c.loop-i.sessions.len + adds c.handle-effect.result.action + c.handle-effect.result.queue.len ≤ 64) = room c.args.site c.args.rows c.args.curves.now c.args.lens.now (search (rules, length_mapped)) c.requires.0 c.args.state.simulation.events.head c.loop-i.i c.loop-i.events c.loop-i.queue c.loop-i.sessions c.loop-i.places
     c.loop-i.invariant.1 c.loop-i.invariant.2 c.loop-i.invariant.3 c.if-events-head.false c.handle-effect.result c.handle-effect.ensures in
-    let one : adds c.handle-effect.result.action ≡ 1 = ap adds c.in-Books.is in
-    (
+    let one : adds c.handle-effect.result.action ≡ 1 = ap adds c.in-Books.is in (
       omega arith,
       record { order = omega (arith, c.if-events-head.false); events = c.loop-i.invariant.1.events; queued = omega (arith, fits); sessions = omega (arith, fits, one) },
       record { events = c.loop-i.invariant.2.events; queue = search (length_mapped, c.handle-effect.type_inv.1.1.0); sessions = simp length-set c.loop-i.invariant.2.sessions },
       next-books c.args.site c.args.rows c.args.curves.now c.args.lens.now (search (rules, length_mapped)) c.requires.0 c.args.state.simulation.events.head c.loop-i.i c.loop-i.events c.loop-i.queue c.loop-i.sessions c.loop-i.places
-    c.loop-i.invariant.1 c.loop-i.invariant.2 c.loop-i.invariant.3 c.if-events-head.false c.handle-effect.result c.handle-effect.ensures c.in-Books.x c.in-Books.is,
+          c.loop-i.invariant.1 c.loop-i.invariant.2 c.loop-i.invariant.3 c.if-events-head.false c.handle-effect.result c.handle-effect.ensures c.in-Books.x c.in-Books.is,
     )
 
 pub charge-x-requires : goal.charge-x-requires
 charge-x-requires c =
     let all : length c.args.site.vehicles.all ≡ 64 = search (rules, length_mapped) in
     let there : c.in-PlugsIn.v < length (listed c.args.site.vehicles) = c.handle-effect.ensures.there c.in-PlugsIn.v c.in-PlugsIn.c c.in-PlugsIn.is in
-    let there = simp length-take at there in
-    (
+    let there = simp length-take at there in (
       soon c.args.site c.args.rows c.args.curves.now c.args.lens.now (search (rules, length_mapped)) c.requires.0 c.args.state.simulation.events.head c.loop-i.i c.loop-i.events c.loop-i.queue c.loop-i.sessions c.loop-i.places
-    c.loop-i.invariant.1 c.loop-i.invariant.2 c.loop-i.invariant.3 c.if-events-head.false,
+          c.loop-i.invariant.1 c.loop-i.invariant.2 c.loop-i.invariant.3 c.if-events-head.false,
       at_inside c.args.site.vehicles.all c.args.site.vehicles.len c.in-PlugsIn.v _ no_vehicle (omega (arith, there)) (omega (arith, there, all)),
     )
 
@@ -183,21 +182,26 @@ bounds-sessions-at-in-PlugsIn c =
     c.loop-i.invariant.1 c.loop-i.invariant.2 c.loop-i.invariant.3 c.if-events-head.false c.handle-effect.result c.handle-effect.ensures (ap adds c.in-PlugsIn.is)
 
 pub pushed-events-requires : goal.pushed-events-requires
-pushed-events-requires c =
-    (omega (arith, c.if-events-head.false), omega (arith, (room c.args.site c.args.rows c.args.curves.now c.args.lens.now (search (rules, length_mapped)) c.requires.0 c.args.state.simulation.events.head c.loop-i.i c.loop-i.events c.loop-i.queue c.loop-i.sessions c.loop-i.places
-    c.loop-i.invariant.1 c.loop-i.invariant.2 c.loop-i.invariant.3 c.if-events-head.false c.handle-effect.result c.handle-effect.ensures).0, ap adds c.in-PlugsIn.is))
+pushed-events-requires c = (
+  omega (arith, c.if-events-head.false),
+  omega (
+    arith,
+    (room c.args.site c.args.rows c.args.curves.now c.args.lens.now (search (rules, length_mapped)) c.requires.0 c.args.state.simulation.events.head c.loop-i.i c.loop-i.events c.loop-i.queue c.loop-i.sessions c.loop-i.places
+        c.loop-i.invariant.1 c.loop-i.invariant.2 c.loop-i.invariant.3 c.if-events-head.false c.handle-effect.result c.handle-effect.ensures).0,
+    ap adds c.in-PlugsIn.is,
+  ),
+)
 
 pub loop-i-preserved : goal.loop-i-preserved
 loop-i-preserved c =
     let fits : (c.loop-i.events.tail + adds c.handle-effect.result.action ≤ 192) × (c.loop-i.sessions.len + adds c.handle-effect.result.action + c.handle-effect.result.queue.len ≤ 64) = room c.args.site c.args.rows c.args.curves.now c.args.lens.now (search (rules, length_mapped)) c.requires.0 c.args.state.simulation.events.head c.loop-i.i c.loop-i.events c.loop-i.queue c.loop-i.sessions c.loop-i.places
     c.loop-i.invariant.1 c.loop-i.invariant.2 c.loop-i.invariant.3 c.if-events-head.false c.handle-effect.result c.handle-effect.ensures in
-    let one : adds c.handle-effect.result.action ≡ 1 = ap adds c.in-PlugsIn.is in
-    (
+    let one : adds c.handle-effect.result.action ≡ 1 = ap adds c.in-PlugsIn.is in (
       omega arith,
       record { order = omega (arith, c.if-events-head.false, c.pushed-events.ensures); events = omega (arith, fits, one, c.pushed-events.ensures); queued = omega (arith, fits); sessions = omega (arith, fits, one) },
       record { events = search (length_mapped, c.pushed-events.type_inv.1.1.0); queue = search (length_mapped, c.handle-effect.type_inv.1.1.0); sessions = simp length-set c.loop-i.invariant.2.sessions },
       next-plugs c.args.site c.args.rows c.args.curves.now c.args.lens.now (search (rules, length_mapped)) c.requires.0 c.args.state.simulation.events.head c.loop-i.i c.loop-i.events c.loop-i.queue c.loop-i.sessions c.loop-i.places
-    c.loop-i.invariant.1 c.loop-i.invariant.2 c.loop-i.invariant.3 c.if-events-head.false c.handle-effect.result c.handle-effect.ensures c.in-PlugsIn.v c.in-PlugsIn.c c.in-PlugsIn.is c.charge-x.result c.charge-x.ensures c.pushed-events.result c.pushed-events.ensures.0 c.pushed-events.ensures.1 c.occupied-taken.result c.occupied-taken.ensures,
+          c.loop-i.invariant.1 c.loop-i.invariant.2 c.loop-i.invariant.3 c.if-events-head.false c.handle-effect.result c.handle-effect.ensures c.in-PlugsIn.v c.in-PlugsIn.c c.in-PlugsIn.is c.charge-x.result c.charge-x.ensures c.pushed-events.result c.pushed-events.ensures.0 c.pushed-events.ensures.1 c.occupied-taken.result c.occupied-taken.ensures,
     )
 
 pub returns-clause-order : goal.returns-clause-order

@@ -1,5 +1,5 @@
 -- `engine::discrete::handle` meets its contract. By the kind of the event. Assumes nothing.
-use Rattle.std.proofs.Common.{◌+◌, ◌≤◌, take, arith, rules}
+use Rattle.std.proofs.Common.{◌+◌, ◌≤◌, take, arith}
 use Rattle.charger.specs.Code.Vehicles.{listed}
 use Rattle.engine.proofs.discrete.EventStates.{reneges}
 use Rattle.engine.proofs.discrete.handle.Goals as goal

@@ -10,8 +10,7 @@ pub go_on-requires : goal.go_on-requires
 go_on-requires c =
     let p = plan_of c.args.site c.args.rows c.args.curves.now c.args.lens.now in
     let long : length c.args.site.chargers ≡ 32 = search (rules, length_mapped) in
-    let few : length p.chargers ≡ c.args.site.count = length-take-le c.args.site.count c.args.site.chargers (omega (arith, c.requires.0.1)) in
-    (
+    let few : length p.chargers ≡ c.args.site.count = length-take-le c.args.site.count c.args.site.chargers (omega (arith, c.requires.0.1)) in (
       c.requires,
       (c.new.ensures.sound, begins p c.new.ensures c.args.site.count few c.requires.0.1 ∙ ap (run p) (sym c.new.ensures.head)),
     )

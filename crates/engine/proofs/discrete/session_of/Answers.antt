@@ -1,5 +1,4 @@
 -- `engine::discrete::session_of` meets its contract. Assumes nothing.
-use Rattle.std.proofs.Common.{rules}
 use Rattle.engine.proofs.discrete.session_of.Goals as goal
 
 pub returns : goal.returns

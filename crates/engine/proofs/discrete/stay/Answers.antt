@@ -1,5 +1,5 @@
 -- `engine::discrete::stay` meets its contract. Each part is at most a week. Assumes nothing.
-use Rattle.std.proofs.Common.{arith, rules}
+use Rattle.std.proofs.Common.{arith}
 use Rattle.curve.proofs.float.Ceiling.{ceiling_week}
 use Rattle.engine.proofs.discrete.stay.Goals as goal
 

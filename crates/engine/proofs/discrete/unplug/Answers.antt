@@ -1,5 +1,5 @@
 -- `engine::discrete::unplug` meets its contract. By what `pop_compatible` found. Assumes nothing.
-use Rattle.std.proofs.Common.{take, rules}
+use Rattle.std.proofs.Common.{take}
 use Rattle.charger.specs.Code.Vehicles.{listed}
 use Rattle.engine.proofs.discrete.EventStates.{passes, frees}
 use Rattle.engine.proofs.discrete.unplug.Goals as goal

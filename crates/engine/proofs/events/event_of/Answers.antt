@@ -1,5 +1,5 @@
 -- `engine::events::event_of` meets its contract: the kind is by the second number. Assumes nothing.
-use Rattle.std.proofs.Common.{⊎_elim, rules, eq-eqb, ne_eqb}
+use Rattle.std.proofs.Common.{eq-eqb, ne_eqb}
 use Rattle.engine.proofs.events.event_of.Goals as goal
 use Rattle.engine.proofs.events.event_of.Goals.{then-row-eq0, else-row-eq0}
 

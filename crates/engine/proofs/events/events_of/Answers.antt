@@ -1,5 +1,4 @@
-use Rattle.std.proofs.Common.{◌≡◌, ◌-◌, ◌≤◌, length, take, refl, arith, length-set, rules}
-use Rattle.engine.specs.Code.Simulation.{events_of}
+use Rattle.std.proofs.Common.{◌≡◌, refl, arith, length-set}
 use Rattle.engine.proofs.events.Rows.{event_more}
 use Rattle.engine.proofs.events.events_of.Goals as goal
 

@@ -1,7 +1,6 @@
 -- `engine::events::events_of` meets its contract. The loop's invariant: the first i events are those of the first i rows. Assumes nothing.
-use Rattle.std.proofs.Common.{◌≡◌, ◌-◌, ◌≤◌, length, take, refl, arith, length-set, rules}
+use Rattle.std.proofs.Common.{◌≡◌, ◌-◌, ◌≤◌, length, take}
 use Rattle.engine.specs.Code.Simulation.{events_of}
-use Rattle.engine.proofs.events.Rows.{event_more}
 use Rattle.engine.proofs.events.events_of.Given as goal
 
 abbrev pub invariant-loop-i : goal.invariant-loop-i

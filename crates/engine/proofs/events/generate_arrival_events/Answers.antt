@@ -1,11 +1,9 @@
-use Rattle.std.proofs.Common.{◌≡◌, ◌-◌, ◌*◌, ◌≤◌, [], length, take, refl, ◌∙◌, arith, rules}
+use Rattle.std.proofs.Common.{◌≡◌, refl, ◌∙◌, arith, rules}
 use Rattle.charger.specs.Lists.{none}
-use Rattle.charger.specs.Code.Queue.{part}
 use Rattle.charger.proofs.waiting_queue.Part.{part_end, length_mapped}
-use Rattle.engine.specs.Events.{empty, generate}
-use Rattle.engine.specs.Code.Simulation.{events_of}
+use Rattle.engine.specs.Events.{empty}
 use Rattle.engine.proofs.events.Generated.{listed_at, until_fits, generate_rows}
-use Rattle.engine.proofs.events.Order.{Upto, upto_arrival}
+use Rattle.engine.proofs.events.Order.{upto_arrival}
 use Rattle.engine.proofs.events.generate_arrival_events.Goals as goal
 
 pub loop-v-init : goal.loop-v-init

@@ -1,13 +1,10 @@
 -- `engine::events::generate_arrival_events` meets its contract. The loop's invariant: what is left to push, pushed behind what stands in the rows, is the whole.
 -- Assumes nothing.
-use Rattle.std.proofs.Common.{◌≡◌, ◌-◌, ◌*◌, ◌≤◌, [], length, take, refl, ◌∙◌, arith, rules}
-use Rattle.charger.specs.Lists.{none}
+use Rattle.std.proofs.Common.{◌≡◌, ◌-◌, ◌*◌, ◌≤◌, [], length, take}
 use Rattle.charger.specs.Code.Queue.{part}
-use Rattle.charger.proofs.waiting_queue.Part.{part_end, length_mapped}
-use Rattle.engine.specs.Events.{empty, generate}
+use Rattle.engine.specs.Events.{generate}
 use Rattle.engine.specs.Code.Simulation.{events_of}
-use Rattle.engine.proofs.events.Generated.{listed_at, until_fits, generate_rows}
-use Rattle.engine.proofs.events.Order.{Upto, upto_arrival}
+use Rattle.engine.proofs.events.Order.{Upto}
 use Rattle.engine.proofs.events.generate_arrival_events.Given as goal
 
 abbrev pub invariant-loop-v : goal.invariant-loop-v

@@ -1,5 +1,5 @@
-use Rattle.std.proofs.Common.{◌≡◌, ◌≤◌, [], length, refl, ⊎_elim, arith, length-set, rules}
-use Rattle.charger.proofs.waiting_queue.Part.{Opening, opening_start, opening_down}
+use Rattle.std.proofs.Common.{◌≡◌, [], refl, arith, length-set}
+use Rattle.charger.proofs.waiting_queue.Part.{opening_start, opening_down}
 use Rattle.engine.proofs.events.Rows.{compared, place, place_start, place-below, place-above, placed}
 use Rattle.engine.proofs.events.insert.Goals as goal
 use Rattle.engine.proofs.events.insert.Goals.{else-loop-j-test, then-loop-j-test+else-pops_before}

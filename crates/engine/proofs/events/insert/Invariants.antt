@@ -1,8 +1,8 @@
 -- `engine::events::insert` meets its contract. The loop's invariant: the rows from j on have moved down, before j they are as they were, and the row's place is
 -- not behind j. Assumes nothing.
-use Rattle.std.proofs.Common.{◌≡◌, ◌≤◌, [], length, refl, ⊎_elim, arith, length-set, rules}
-use Rattle.charger.proofs.waiting_queue.Part.{Opening, opening_start, opening_down}
-use Rattle.engine.proofs.events.Rows.{compared, place, place_start, place-below, place-above, placed}
+use Rattle.std.proofs.Common.{◌≡◌, ◌≤◌, length}
+use Rattle.charger.proofs.waiting_queue.Part.{Opening}
+use Rattle.engine.proofs.events.Rows.{place}
 use Rattle.engine.proofs.events.insert.Given as goal
 
 abbrev pub invariant-loop-j : goal.invariant-loop-j

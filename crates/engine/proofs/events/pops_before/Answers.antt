@@ -1,10 +1,6 @@
 -- `engine::events::pops_before` meets its contract. Assumes nothing.
-use Rattle.std.proofs.Common.{rules, eq-eqb, ne_eqb}
+use Rattle.std.proofs.Common.{eq-eqb, ne_eqb}
 use Rattle.engine.proofs.events.Before.{by_time, by_rank, by_place}
-use Rattle.engine.proofs.events.pops_before.Reads as reads
-use Rattle.engine.proofs.events.pops_before.Lts as lts
-use Rattle.engine.proofs.events.place_in_plan.Reads as place-in-plan-reads
-use Rattle.engine.proofs.events.rank.Reads as rank-reads
 use Rattle.engine.proofs.events.pops_before.Goals as goal
 
 pub returns-then-a-b : goal.returns-then-a-b

@@ -1,7 +1,4 @@
-use Rattle.std.proofs.Common.{◌≡◌, ◌-◌, ◌≤◌, refl, arith}
-use Rattle.engine.specs.Timestep.{closed}
-use Rattle.power.specs.Code.Bank.{bank}
-use Rattle.engine.specs.Code.Steps.{Rewritten}
+use Rattle.std.proofs.Common.{◌≡◌, refl, arith}
 use Rattle.engine.proofs.plug_in.Closings.{closed_more}
 use Rattle.engine.proofs.plug_in.close_finished.Goals as goal
 

@@ -1,9 +1,8 @@
 -- `engine::plug_in::close_finished` meets its contract.
-use Rattle.std.proofs.Common.{◌≡◌, ◌-◌, ◌≤◌, refl, arith}
+use Rattle.std.proofs.Common.{◌-◌, ◌≤◌}
 use Rattle.engine.specs.Timestep.{closed}
 use Rattle.power.specs.Code.Bank.{bank}
 use Rattle.engine.specs.Code.Steps.{Rewritten}
-use Rattle.engine.proofs.plug_in.Closings.{closed_more}
 use Rattle.engine.proofs.plug_in.close_finished.Given as goal
 
 abbrev pub invariant-loop-i : goal.invariant-loop-i

@@ -1,6 +1,5 @@
 -- `engine::plug_in::finalize` meets its contract.
 use Rattle.engine.specs.Timestep.{finalized}
-use Rattle.std.proofs.Common.{rules}
 use Rattle.engine.proofs.plug_in.finalize.Goals as goal
 
 pub returns : goal.returns

@@ -1,6 +1,5 @@
 -- `engine::plug_in::free_finished` meets its contract.
 use Rattle.engine.proofs.plug_in.Releases.{closes_and_frees, fit_closed}
-use Rattle.std.proofs.Common.{rules}
 use Rattle.engine.proofs.plug_in.free_finished.Goals as goal
 
 pub release_finished-requires : goal.release_finished-requires

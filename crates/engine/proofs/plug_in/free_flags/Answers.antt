@@ -1,4 +1,4 @@
-use Rattle.std.proofs.Common.{◌≡◌, ℕ, ◌-◌, ◌<◌, ◌≤◌, false, length, get_or, refl, arith, length-set, rules}
+use Rattle.std.proofs.Common.{◌≡◌, ◌<◌, length, refl, arith, length-set}
 use Rattle.power.specs.Code.Bank.{vacant_at}
 use Rattle.engine.proofs.plug_in.Handling.{flags_more}
 use Rattle.engine.proofs.plug_in.free_flags.Goals as goal

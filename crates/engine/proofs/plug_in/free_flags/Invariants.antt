@@ -1,7 +1,6 @@
 -- `engine::plug_in::free_flags` meets its contract.
-use Rattle.std.proofs.Common.{◌≡◌, ℕ, ◌-◌, ◌<◌, ◌≤◌, false, length, get_or, refl, arith, length-set, rules}
+use Rattle.std.proofs.Common.{◌≡◌, ℕ, ◌-◌, ◌<◌, ◌≤◌, false, length, get_or}
 use Rattle.power.specs.Code.Bank.{vacant_at}
-use Rattle.engine.proofs.plug_in.Handling.{flags_more}
 use Rattle.engine.proofs.plug_in.free_flags.Given as goal
 
 abbrev pub invariant-loop-i : goal.invariant-loop-i

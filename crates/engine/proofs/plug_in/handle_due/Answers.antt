@@ -1,10 +1,7 @@
-use Rattle.std.proofs.Common.{◌≡◌, ℕ, ◌-◌, List, length, sym, refl, ap, ◌∙◌, arith}
-use lib.Ieee.{Float}
+use Rattle.std.proofs.Common.{sym, refl, ap, ◌∙◌, arith}
 use Rattle.engine.specs.declared.site.Simulation.{Simulation}
-use Rattle.power.specs.Code.Bank.{bank}
-use Rattle.engine.specs.Code.Simulation.{site_state, plan_of}
-use Rattle.engine.specs.Code.Steps.{RoomFor}
-use Rattle.engine.proofs.plug_in.Handling.{due_some, fit_popped, popped_less, no_unplug, comes, due_now, due_more, due_none}
+use Rattle.engine.specs.Code.Simulation.{plan_of}
+use Rattle.engine.proofs.plug_in.Handling.{due_some, fit_popped, popped_less, no_unplug, comes, due_more, due_none}
 use Rattle.engine.proofs.plug_in.handle_due.Goals as goal
 
 pub loop-site-init : goal.loop-site-init

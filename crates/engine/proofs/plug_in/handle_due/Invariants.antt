@@ -1,11 +1,10 @@
 -- `engine::plug_in::handle_due` meets its contract.
-use Rattle.std.proofs.Common.{◌≡◌, ℕ, ◌-◌, List, length, sym, refl, ap, ◌∙◌, arith}
+use Rattle.std.proofs.Common.{◌≡◌, ℕ, ◌-◌, List, length}
 use lib.Ieee.{Float}
-use Rattle.engine.specs.declared.site.Simulation.{Simulation}
 use Rattle.power.specs.Code.Bank.{bank}
 use Rattle.engine.specs.Code.Simulation.{site_state, plan_of}
 use Rattle.engine.specs.Code.Steps.{RoomFor}
-use Rattle.engine.proofs.plug_in.Handling.{due_some, fit_popped, popped_less, no_unplug, comes, due_now, due_more, due_none}
+use Rattle.engine.proofs.plug_in.Handling.{due_now}
 use Rattle.engine.proofs.plug_in.handle_due.Given as goal
 
 abbrev pub invariant-loop-site : goal.invariant-loop-site

@@ -1,5 +1,5 @@
 -- `engine::plug_in::handle_event` meets its contract.
-use Rattle.std.proofs.Common.{arith, rules}
+use Rattle.std.proofs.Common.{arith}
 use Rattle.engine.proofs.plug_in.Handling.{reneges, unplug_never}
 use Rattle.engine.proofs.plug_in.handle_event.Goals as goal
 

@@ -1,6 +1,5 @@
 -- `engine::plug_in::is_due` meets its contract.
 use Rattle.charger.proofs.waiting_queue.Part.{part_end}
-use Rattle.std.proofs.Common.{rules}
 use Rattle.engine.proofs.plug_in.is_due.Goals as goal
 
 pub returns-then-events : goal.returns-then-events

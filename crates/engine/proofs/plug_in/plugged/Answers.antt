@@ -2,7 +2,6 @@
 use lib.Ieee.{of_bits}
 use Rattle.curve.specs.F64.{ratio}
 use Rattle.engine.specs.Timestep.{plugged}
-use Rattle.std.proofs.Common.{rules}
 use Rattle.engine.proofs.plug_in.plugged.Goals as goal
 
 pub returns : goal.returns

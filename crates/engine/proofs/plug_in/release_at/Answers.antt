@@ -1,5 +1,5 @@
 -- `engine::plug_in::release_at` meets its contract.
-use Rattle.std.proofs.Common.{arith, rules}
+use Rattle.std.proofs.Common.{arith}
 use Rattle.engine.proofs.plug_in.Releases.{who_popped, fit_requeued, releases_passing, releases_freeing}
 use Rattle.engine.proofs.plug_in.release_at.Goals as goal
 

@@ -1,5 +1,5 @@
-use Rattle.std.proofs.Common.{◌≡◌, ◌-◌, ◌≤◌, length, refl, ◌∙◌, arith}
-use Rattle.engine.proofs.plug_in.Releases.{Releasing, releasing_none, releasing_more, releasing_all}
+use Rattle.std.proofs.Common.{refl, ◌∙◌, arith}
+use Rattle.engine.proofs.plug_in.Releases.{releasing_none, releasing_more, releasing_all}
 use Rattle.engine.proofs.plug_in.release_finished.Goals as goal
 
 pub loop-c-init : goal.loop-c-init

@@ -1,6 +1,6 @@
 -- `engine::plug_in::release_finished` meets its contract.
-use Rattle.std.proofs.Common.{◌≡◌, ◌-◌, ◌≤◌, length, refl, ◌∙◌, arith}
-use Rattle.engine.proofs.plug_in.Releases.{Releasing, releasing_none, releasing_more, releasing_all}
+use Rattle.std.proofs.Common.{◌≡◌, ◌-◌, ◌≤◌, length}
+use Rattle.engine.proofs.plug_in.Releases.{Releasing}
 use Rattle.engine.proofs.plug_in.release_finished.Given as goal
 
 abbrev pub invariant-loop-c : goal.invariant-loop-c

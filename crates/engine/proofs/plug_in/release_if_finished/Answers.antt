@@ -1,5 +1,5 @@
 -- `engine::plug_in::release_if_finished` meets its contract.
-use Rattle.std.proofs.Common.{sym, refl, ◌∙◌, rules}
+use Rattle.std.proofs.Common.{sym, refl, ◌∙◌}
 use Rattle.engine.proofs.plug_in.Releases.{released_so, released_not}
 use Rattle.engine.proofs.plug_in.release_if_finished.Goals as goal
 

@@ -1,5 +1,5 @@
 -- `engine::site::charger_of` meets its contract. Inside the list the default says nothing, and past its end it is what is returned. Assumes nothing.
-use Rattle.std.proofs.Common.{◌≡◌, ◌≤◌, length, take, ◌∙◌, ⊎_elim, arith, length-take, rules}
+use Rattle.std.proofs.Common.{◌≡◌, ◌≤◌, length, take, ◌∙◌, arith, length-take, rules}
 use Rattle.charger.proofs.waiting_queue.Part.{length_mapped}
 use Rattle.engine.specs.Plan.{charger_at}
 use Rattle.engine.proofs.site.At.{at_inside, at_past}

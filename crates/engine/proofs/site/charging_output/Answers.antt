@@ -1,5 +1,4 @@
 -- `engine::site::charging_output` meets its contract. Assumes nothing.
-use Rattle.std.proofs.Common.{rules}
 use Rattle.engine.proofs.site.charging_output.Goals as goal
 
 pub returns : goal.returns

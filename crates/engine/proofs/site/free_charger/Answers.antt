@@ -1,7 +1,5 @@
-use Rattle.std.proofs.Common.{◌≡◌, ◌+◌, ◌-◌, ◌≤◌, length, take, sym, ◌∙◌, arith, rules}
-use Rattle.charger.specs.Code.Queue.{part, seek}
+use Rattle.std.proofs.Common.{take, sym, ◌∙◌, arith, rules}
 use Rattle.charger.proofs.waiting_queue.Part.{length_mapped}
-use Rattle.engine.specs.SiteState.{below}
 use Rattle.engine.specs.Code.Simulation.{takes}
 use Rattle.engine.proofs.site.Places.{search_start, search_here, search_on, search_end, takes_at}
 use Rattle.engine.proofs.site.free_charger.Goals as goal

@@ -1,10 +1,8 @@
 -- `engine::site::free_charger` meets its contract. The loop's invariant: no charger before c is free and fits. Assumes nothing.
-use Rattle.std.proofs.Common.{◌≡◌, ◌+◌, ◌-◌, ◌≤◌, length, take, sym, ◌∙◌, arith, rules}
+use Rattle.std.proofs.Common.{◌≡◌, ◌+◌, ◌-◌, ◌≤◌, length, take}
 use Rattle.charger.specs.Code.Queue.{part, seek}
-use Rattle.charger.proofs.waiting_queue.Part.{length_mapped}
 use Rattle.engine.specs.SiteState.{below}
 use Rattle.engine.specs.Code.Simulation.{takes}
-use Rattle.engine.proofs.site.Places.{search_start, search_here, search_on, search_end, takes_at}
 use Rattle.engine.proofs.site.free_charger.Given as goal
 
 abbrev pub invariant-loop-c : goal.invariant-loop-c

@@ -1,5 +1,5 @@
 -- `engine::site::rated_of` meets its contract. Assumes nothing.
-use Rattle.std.proofs.Common.{◌∙◌, rules}
+use Rattle.std.proofs.Common.{◌∙◌}
 use Rattle.engine.specs.Plan.{rated}
 use Rattle.engine.proofs.site.rated_of.Goals as goal
 

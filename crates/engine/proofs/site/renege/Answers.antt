@@ -1,5 +1,5 @@
 -- `engine::site::renege` meets its contract. By what `remove` found. Assumes nothing.
-use Rattle.std.proofs.Common.{◌∙◌, rules}
+use Rattle.std.proofs.Common.{◌∙◌}
 use Rattle.charger.specs.Code.Vehicles.{listed}
 use Rattle.engine.proofs.site.Simulations.{leaves, misses}
 use Rattle.engine.proofs.site.renege.Goals as goal

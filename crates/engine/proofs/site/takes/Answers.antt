@@ -1,5 +1,4 @@
 -- `engine::site::takes` meets its contract. A charger that is not free takes nobody. Assumes nothing.
-use Rattle.std.proofs.Common.{rules}
 use Rattle.engine.proofs.site.takes.Goals as goal
 
 pub returns-then-free : goal.returns-then-free

@@ -1,5 +1,5 @@
 -- `engine::site::turn_away` meets its contract. By the balk test. Assumes nothing.
-use Rattle.std.proofs.Common.{sym, ◌∙◌, rules}
+use Rattle.std.proofs.Common.{sym, ◌∙◌}
 use Rattle.engine.proofs.site.Simulations.{balked, waits}
 use Rattle.engine.proofs.site.turn_away.Goals as goal
 

@@ -1,6 +1,4 @@
-use Rattle.std.proofs.Common.{◌≡◌, ◌-◌, ◌≤◌, true, sym, refl, ◌∙◌, arith, rules}
-use Rattle.power.specs.ChargerState.{all_free}
-use Rattle.power.specs.Code.Bank.{bank}
+use Rattle.std.proofs.Common.{◌≡◌, sym, refl, ◌∙◌, arith}
 use Rattle.engine.proofs.timestep.Ends.{all_free_more, not_all_free}
 use Rattle.engine.proofs.timestep.all_free.Goals as goal
 

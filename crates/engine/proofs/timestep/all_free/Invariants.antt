@@ -1,8 +1,7 @@
 -- `engine::timestep::all_free` meets its contract.
-use Rattle.std.proofs.Common.{◌≡◌, ◌-◌, ◌≤◌, true, sym, refl, ◌∙◌, arith, rules}
+use Rattle.std.proofs.Common.{◌≡◌, ◌-◌, ◌≤◌, true}
 use Rattle.power.specs.ChargerState.{all_free}
 use Rattle.power.specs.Code.Bank.{bank}
-use Rattle.engine.proofs.timestep.Ends.{all_free_more, not_all_free}
 use Rattle.engine.proofs.timestep.all_free.Given as goal
 
 abbrev pub invariant-loop-i : goal.invariant-loop-i

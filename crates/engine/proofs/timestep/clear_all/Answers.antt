@@ -1,6 +1,4 @@
-use Rattle.std.proofs.Common.{◌≡◌, ℕ, ◌-◌, ◌<◌, ◌≤◌, length, refl, ◌∙◌, arith}
-use Rattle.power.specs.ChargerState.{empty}
-use Rattle.power.specs.Code.Bank.{state_at}
+use Rattle.std.proofs.Common.{◌≡◌, refl, ◌∙◌, arith}
 use Rattle.engine.proofs.timestep.Begins.{cleared_more, cleared_all}
 use Rattle.engine.proofs.timestep.clear_all.Goals as goal
 

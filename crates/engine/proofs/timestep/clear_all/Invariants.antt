@@ -1,8 +1,7 @@
 -- `engine::timestep::clear_all` meets its contract.
-use Rattle.std.proofs.Common.{◌≡◌, ℕ, ◌-◌, ◌<◌, ◌≤◌, length, refl, ◌∙◌, arith}
+use Rattle.std.proofs.Common.{◌≡◌, ℕ, ◌-◌, ◌<◌, ◌≤◌, length}
 use Rattle.power.specs.ChargerState.{empty}
 use Rattle.power.specs.Code.Bank.{state_at}
-use Rattle.engine.proofs.timestep.Begins.{cleared_more, cleared_all}
 use Rattle.engine.proofs.timestep.clear_all.Given as goal
 
 abbrev pub invariant-loop-i : goal.invariant-loop-i

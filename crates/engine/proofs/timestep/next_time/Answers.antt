@@ -1,5 +1,5 @@
 -- `engine::timestep::next_time` meets its contract.
-use Rattle.std.proofs.Common.{rules, le-leb}
+use Rattle.std.proofs.Common.{le-leb}
 use borrow.Author.Tests.{lt-leb}
 use Rattle.charger.proofs.waiting_queue.Part.{part_end}
 use Rattle.engine.proofs.timestep.next_time.Goals as goal

@@ -1,7 +1,6 @@
-use Rattle.std.proofs.Common.{◌≡◌, ◌+◌, ◌-◌, length, sym, refl, ◌∙◌, arith}
-use Rattle.engine.specs.Code.Simulation.{plan_of}
+use Rattle.std.proofs.Common.{sym, refl, ◌∙◌, arith}
 use Rattle.engine.proofs.plug_in.Handling.{room_kept}
-use Rattle.engine.proofs.timestep.LoopRun.{Going, going_start, going_on, going_ended, going_out}
+use Rattle.engine.proofs.timestep.LoopRun.{going_start, going_on, going_ended, going_out}
 use Rattle.engine.proofs.timestep.rounds.Goals as goal
 
 pub overflow_add-last : goal.overflow_add-last

@@ -1,8 +1,7 @@
 -- `engine::timestep::rounds` meets its contract.
-use Rattle.std.proofs.Common.{◌≡◌, ◌+◌, ◌-◌, length, sym, refl, ◌∙◌, arith}
+use Rattle.std.proofs.Common.{◌≡◌, ◌+◌, ◌-◌, length}
 use Rattle.engine.specs.Code.Simulation.{plan_of}
-use Rattle.engine.proofs.plug_in.Handling.{room_kept}
-use Rattle.engine.proofs.timestep.LoopRun.{Going, going_start, going_on, going_ended, going_out}
+use Rattle.engine.proofs.timestep.LoopRun.{Going}
 use Rattle.engine.proofs.timestep.rounds.Given as goal
 
 abbrev pub invariant-loop-at : goal.invariant-loop-at

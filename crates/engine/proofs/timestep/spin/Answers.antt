@@ -1,11 +1,10 @@
 -- `engine::timestep::spin` meets its contract.
-use Rattle.std.proofs.Common.{◌≡◌, ℕ, ◌+◌, ◌-◌, ◌<◌, ◌≤◌, ap, arith, rules}
+use Rattle.std.proofs.Common.{ap, arith}
 use Rattle.charger.specs.Code.Profiles.{curve_at}
-use Rattle.power.specs.Code.Rounds.{Spun, spin}
+use Rattle.power.specs.Code.Rounds.{Spun}
 use Rattle.power.specs.Code.Bank.{bank}
 use Rattle.engine.specs.Code.Simulation.{pending}
-use Rattle.engine.specs.Code.Steps.{next_time}
-use Rattle.engine.proofs.timestep.LoopTurn.{Next, next_quiet, counted, went_on, went_freeing}
+use Rattle.engine.proofs.timestep.LoopTurn.{next_quiet, counted, went_on, went_freeing}
 use Rattle.engine.proofs.timestep.spin.Goals as goal
 
 pub overflow_sub-next : goal.overflow_sub-next

@@ -1,5 +1,5 @@
 -- `engine::timestep::turn` meets its contract.
-use Rattle.std.proofs.Common.{sym, ◌∙◌, arith, rules}
+use Rattle.std.proofs.Common.{sym, ◌∙◌, arith}
 use Rattle.engine.proofs.plug_in.Handling.{room_kept}
 use Rattle.engine.proofs.timestep.LoopTurn.{went_last, went_through}
 use Rattle.engine.proofs.timestep.turn.Goals as goal

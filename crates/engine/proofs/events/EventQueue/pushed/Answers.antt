@@ -1,6 +1,6 @@
-use Rattle.std.proofs.Common.{◌≡◌, ℕ, ◌+◌, ◌-◌, ◌<◌, ◌≤◌, length, set, sym, refl, ap, ◌∙◌, ⊎_elim, arith, length-set, rules}
+use Rattle.std.proofs.Common.{◌≡◌, ℕ, ◌+◌, set, sym, refl, ap, ◌∙◌, arith, length-set, rules}
 use Rattle.charger.specs.Code.Queue.{part, seek}
-use Rattle.charger.proofs.waiting_queue.Part.{seek_here, seek_on, seek_end, Opening, opening_start, opening_down, opening_set, length_mapped}
+use Rattle.charger.proofs.waiting_queue.Part.{seek_here, seek_on, seek_end, opening_start, opening_down, opening_set, length_mapped}
 use Rattle.engine.specs.Events.{arrival, before}
 use Rattle.engine.proofs.events.Push.{push_inserted}
 use Rattle.engine.proofs.events.EventQueue.pushed.Goals as goal

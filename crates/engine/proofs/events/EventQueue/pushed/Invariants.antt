@@ -1,10 +1,9 @@
 -- `engine::events::EventQueue::pushed` meets its contract. The first loop's invariant: `e` pops before none of the events before `at`. The second's: those from
 -- j on have moved down, and before j the array is as it was. Assumes nothing.
-use Rattle.std.proofs.Common.{◌≡◌, ℕ, ◌+◌, ◌-◌, ◌<◌, ◌≤◌, length, set, sym, refl, ap, ◌∙◌, ⊎_elim, arith, length-set, rules}
+use Rattle.std.proofs.Common.{◌≡◌, ◌+◌, ◌-◌, ◌<◌, ◌≤◌, length}
 use Rattle.charger.specs.Code.Queue.{part, seek}
-use Rattle.charger.proofs.waiting_queue.Part.{seek_here, seek_on, seek_end, Opening, opening_start, opening_down, opening_set, length_mapped}
-use Rattle.engine.specs.Events.{arrival, before}
-use Rattle.engine.proofs.events.Push.{push_inserted}
+use Rattle.charger.proofs.waiting_queue.Part.{Opening}
+use Rattle.engine.specs.Events.{before}
 use Rattle.engine.proofs.events.EventQueue.pushed.Given as goal
 
 abbrev pub invariant-loop-at : goal.invariant-loop-at

@@ -1,4 +1,4 @@
-use Rattle.std.proofs.Common.{ap, arith, rules}
+use Rattle.std.proofs.Common.{ap, arith}
 use Rattle.engine.specs.Code.Simulation.{writes}
 use Rattle.engine.proofs.site.Simulations.{wrote_nothing, wrote_session}
 use Rattle.engine.proofs.site.Simulation.changed.Goals as goal
