@@ -16,8 +16,6 @@ use Rattle.charger.proofs.Lists.{all_map}
 use Rattle.engine.specs.declared.session.Sessions.{Sessions}
 use Rattle.engine.specs.declared.site.Site.{Site}
 use Rattle.engine.specs.Code.Simulation.{plan_of, InTime}
-use Rattle.engine.specs.Discrete as Discrete
-use Rattle.engine.specs.Timestep as Timestep
 use Rattle.power.specs.Code.Bank.{Rising}
 use Rattle.files.specs.Code.Reading.{Loaded, Admitted, Counted}
 use Rattle.files.specs.Read.{read_plan, points_of, curve_of_profile}

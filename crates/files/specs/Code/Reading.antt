@@ -6,7 +6,6 @@ use Rattle.engine.specs.declared.site.Site.{Site}
 use Rattle.plan.specs.Plan.{check_blocks}
 use Rattle.files.specs.Read.{curve_of_profile, battery_of, chargers_of, connector_rows, vehicles_of, queue_places_of, limit_of}
 use Rattle.plan.specs.declared.answer.Answer.TheVariants.{Fine}
-use Rattle.files.specs.Totals.{counted}
 use Rattle.charger.specs.Code.Profiles.{curve_at}
 use Rattle.plan.specs.Places.{profile_count, charger_count, vehicle_count}
 
