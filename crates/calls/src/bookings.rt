@@ -8,14 +8,7 @@ use late_booking::late::book_late;
 use plan::answer::check_numbers;
 
 // Books a car into a plan whose run by events was dumped; its numbers go to `numbers`, the new dump to `new`.
-#[unsafe(no_mangle)]
-pub extern "C" fn site_book_late(
-    plan: &[u8],
-    dump: &[u8],
-    car: &[u8],
-    new: &mut [u8],
-    numbers: &mut [u64; 11],
-)
+pub fn site_book_late(plan: &[u8], dump: &[u8], car: &[u8], new: &mut [u8], numbers: &mut [u64; 11])
     ensures answer { numbers.new ≡ check_numbers (late_answer plan.now dump.now car.now (length new.old)) }
     ensures dump { new.new ≡ new_dump_left plan.now dump.now car.now new.old }
     ensures stands { RunStands plan.now dump.now car.now (late_answer plan.now dump.now car.now (length new.old)) }

@@ -1,4 +1,4 @@
-// The call for C and Rust that reads a book back (request 5).
+// The call that reads a book back (request 5).
 ghost use Rattle.std.specs.Prelude.{◌≡◌};
 ghost use Rattle.book_reader.specs.Reader.{read_book, reading_numbers, header_after, sessions_after};
 ghost use Rattle.book_reader.specs.Accepted.{OfWriter, ComesBack, Unique, OfRuns};
@@ -6,8 +6,7 @@ ghost use Rattle.book_reader.specs.Accepted.{OfWriter, ComesBack, Unique, OfRuns
 use book_reader::numbers::read_numbers;
 
 // Reads a book; its numbers go to `numbers`, its header to `header`, and sixteen numbers of each session to `sessions`.
-#[unsafe(no_mangle)]
-pub extern "C" fn site_read_book(
+pub fn site_read_book(
     book: &[u8],
     header: &mut [u64; 4],
     sessions: &mut [u64; 1024],

@@ -12,8 +12,7 @@ use dump::resume::resume;
 use plan::answer::run_numbers;
 
 // Runs a plan by events; its numbers go to `numbers`, its book to `book`, its dump to `dump`.
-#[unsafe(no_mangle)]
-pub extern "C" fn site_dump(
+pub fn site_dump(
     plan: &[u8],
     engine: u32,
     allowance: u32,
@@ -53,8 +52,7 @@ pub extern "C" fn site_dump(
 }
 
 // Continues a run from a dump; its numbers go to `numbers`, its book to `book`.
-#[unsafe(no_mangle)]
-pub extern "C" fn site_continue(
+pub fn site_continue(
     plan: &[u8],
     dump: &[u8],
     further: u32,

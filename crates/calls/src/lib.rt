@@ -1,9 +1,9 @@
-// The calls for C and Rust. A slice is a pointer and a length; the eleven numbers go to an array of the caller's.
+// The calls. A slice is lent with its length; the eleven numbers go to an array of the caller's. The crate calls_c exports them for C.
 #![tactic(auto)]
 
-mod bookings;
-mod books;
-mod dumps;
+pub mod bookings;
+pub mod books;
+pub mod dumps;
 
 ghost use Rattle.std.specs.Prelude.{◌≡◌, length};
 ghost use Rattle.files.specs.Check.{check_plan, AllSealed};
@@ -17,8 +17,7 @@ use files::call::{check, run};
 use plan::answer::{check_numbers, run_numbers};
 
 // Checks a plan; its numbers go to `numbers`.
-#[unsafe(no_mangle)]
-pub extern "C" fn site_check(plan: &[u8], numbers: &mut [u64; 11])
+pub fn site_check(plan: &[u8], numbers: &mut [u64; 11])
     ensures answer { numbers.new ≡ check_numbers (check_plan plan.now) }
     ensures blocks { AllSealed plan.now (check_plan plan.now) }
     ensures hot_day { HotDayOfPlan plan.now (check_plan plan.now) }
@@ -27,14 +26,7 @@ pub extern "C" fn site_check(plan: &[u8], numbers: &mut [u64; 11])
 }
 
 // Runs a plan; its numbers go to `numbers`, its book to `book`.
-#[unsafe(no_mangle)]
-pub extern "C" fn site_run(
-    plan: &[u8],
-    engine: u32,
-    allowance: u32,
-    book: &mut [u8],
-    numbers: &mut [u64; 11],
-)
+pub fn site_run(plan: &[u8], engine: u32, allowance: u32, book: &mut [u8], numbers: &mut [u64; 11])
     ensures answer { numbers.new ≡ Answer·numbers (answer_of plan.now engine allowance (length book.old)) }
     ensures book { book.new ≡ book_left plan.now engine allowance book.old }
     ensures back { ReadsBack plan.now engine allowance book.new (answer_of plan.now engine allowance (length book.old)) }
