@@ -1,5 +1,5 @@
 -- Refinement: totals, session by session.
-use Rattle.std.specs.Prelude.{ℕ, ◌+◌, max, List, [], ◌∷◌}
+use Rattle.std.specs.Prelude.{◌+◌, max, List, [], ◌∷◌}
 use Rattle.charger.specs.Lists.{tick}
 use Rattle.files.specs.declared.book_session.BookSession.{BookSession}
 use Rattle.book_reader.specs.Totals.{of_outcome, energy_with}

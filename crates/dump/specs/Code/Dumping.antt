@@ -1,5 +1,5 @@
 -- Refinement: what is asked of a call that lays a dump.
-use Rattle.std.specs.Prelude.{ℕ, ◌≤◌, ◌<◌, ◌≡◌, Bool, List, length, take}
+use Rattle.std.specs.Prelude.{ℕ, ◌≤◌, ◌<◌, ◌≡◌, Bool, List, take}
 use Rattle.charger.specs.Lists.{All}
 use Rattle.charger.specs.Code.Queue.{waiting}
 use Rattle.charger.specs.Code.Vehicles.{listed}

@@ -98,6 +98,6 @@ put_in_map f a b old new p =
       first = map f p.first;
       between = map f p.between;
       last = map f p.last;
-      was = rw (p.was, map-append, map-append);
-      now = rw (p.now, map-append, map-append);
+      was = rw (p.was, map-append f, map-append f);
+      now = rw (p.now, map-append f, map-append f);
     }

@@ -4,8 +4,7 @@ use Rattle.curve.proofs.float.Ceiling.{ceiling_week}
 use Rattle.engine.proofs.discrete.stay.Goals as goal
 
 pub overflow_add-result : goal.overflow_add-result
-overflow_add-result c =
-    omega (arith, ceiling_week c.args.duration.0, ceiling_week c.args.idle.0)
+overflow_add-result c = omega (arith, ceiling_week)
 
 pub returns : goal.returns
 returns c =
