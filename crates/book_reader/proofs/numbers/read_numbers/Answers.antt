@@ -17,11 +17,11 @@ put_sessions-requires c = (rw c.header_of-h.ensures (fine_room _ (sym c.test_boo
 pub returns-in-Refused : goal.returns-in-Refused
 returns-in-Refused c =
     let e : read_book c.args.book.now ≡ refused _ = refused_read _ _ (sym c.test_book-answer.ensures ∙ c.in-Refused.is) in
-    let p : Promises c.args.book.now (read_book c.args.book.now) = promised _ (λ k. (c.shared_slice_known-1.given k).fits) _ refl in
+    let p : Promises c.args.book.now (read_book c.args.book.now) = promised _ (λ k. (c.type_inv.book k).fits) _ refl in
     record { answer = c.check_numbers-numbers.ensures ∙ (ap check_numbers c.test_book-answer.ensures ∙ same_numbers _); header = rw e; sessions = rw e; writer = p.0; comes_back = p.1.0; unique = p.1.1.0; runs = p.1.1.1 }
 
 pub returns-in-Fine : goal.returns-in-Fine
 returns-in-Fine c =
     let e : read_book c.args.book.now ≡ contents (contents_of c.args.book.now) = fine_read _ (sym c.test_book-answer.ensures ∙ c.in-Fine.is) in
-    let p : Promises c.args.book.now (read_book c.args.book.now) = promised _ (λ k. (c.shared_slice_known-1.given k).fits) _ refl in
+    let p : Promises c.args.book.now (read_book c.args.book.now) = promised _ (λ k. (c.type_inv.book k).fits) _ refl in
     record { answer = c.check_numbers-numbers.ensures ∙ (ap check_numbers c.test_book-answer.ensures ∙ same_numbers _); header = c.header_numbers.ensures ∙ rw (e, session_count_lem, c.header_of-h.ensures); sessions = rw e c.put_sessions.ensures; writer = p.0; comes_back = p.1.0; unique = p.1.1.0; runs = p.1.1.1 }

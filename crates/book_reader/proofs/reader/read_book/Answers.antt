@@ -18,7 +18,7 @@ read_sessions-sessions-requires c = rw c.header_of-header.ensures (fine_room _ (
 pub returns-in-Refused : goal.returns-in-Refused
 returns-in-Refused c =
     let answer : refused _ ≡ read_book c.args.book.now = sym (refused_read _ _ (sym c.test_book-answer.ensures ∙ c.in-Refused.is)) in
-    let p : Promises c.args.book.now (refused _) = promised _ (λ k. (c.shared_slice_known-1.given k).fits) _ answer in
+    let p : Promises c.args.book.now (refused _) = promised _ (λ k. (c.type_inv.book k).fits) _ answer in
     record { answer = answer; beside = tt; writer = p.0; comes_back = p.1.0; unique = p.1.1.0; runs = p.1.1.1 }
 
 pub returns-in-Fine : goal.returns-in-Fine
@@ -27,5 +27,5 @@ returns-in-Fine c =
     let room : Room c.args.book.now (session_count c.args.book.now) = fine_room _ fine in
     let answer : reading_of (Read c.header_of-header.result) c.read_sessions-sessions.result ≡ read_book c.args.book.now =
     read_as _ _ _ fine c.header_of-header.ensures c.read_sessions-sessions.ensures.all in
-    let p : Promises c.args.book.now (reading_of (Read c.header_of-header.result) c.read_sessions-sessions.result) = promised _ (λ k. (c.shared_slice_known-1.given k).fits) _ answer in
+    let p : Promises c.args.book.now (reading_of (Read c.header_of-header.result) c.read_sessions-sessions.result) = promised _ (λ k. (c.type_inv.book k).fits) _ answer in
     record { answer = answer; beside = (rw c.header_of-header.ensures room.few, c.read_sessions-sessions.ensures.past); writer = p.0; comes_back = p.1.0; unique = p.1.1.0; runs = p.1.1.1 }
