@@ -5,8 +5,9 @@ use mathlib.Core.Bool.{Bool, true, false, cond, not}
 use mathlib.Core.List.{List, [], ◌∷◌, append-nil}
 use borrow.Author.Tests.{eq-eqb}
 use lib.Dec.{leb}
-use lib.ListN.{length}
-use lib.Ieee.{of_bits, to_bits, eq, lt, le, ne, add, sub, mul, div, of_int, to_unsigned}
+use lib.ListN.{length, get_or}
+use lib.IntN.{pos, negsuc}
+use lib.Ieee.{fin, of_bits, to_bits, eq, lt, le, ne, add, sub, mul, div, of_int, to_unsigned}
 use Rattle.curve.specs.F64.{ratio, ceiling}
 use Rattle.curve.specs.Curve.{integrate_over, curve_of}
 use Rattle.charger.specs.Lists.{All, none, also}
@@ -48,8 +49,10 @@ use Rattle.plan.specs.declared.answer.Answer.{Answer}
 use Rattle.plan.specs.declared.answer.Answer.TheVariants.{Fine, Refused}
 use Rattle.plan.specs.declared.answer.Refusal.TheVariants.{Broken, CannotCharge, NotLater}
 use Rattle.plan.specs.declared.answer.Rule.TheVariants.{Field}
+use Rattle.engine.specs.declared.session.Session.{Session}
+use Rattle.engine.specs.declared.session.Outcome.TheVariants.{Charged}
 use Rattle.cases.specs.Bay.{kwh, Bay, plan, bay, second_car, at_target, at_one_kw, nacs_capped, vans, late_car}
-use Rattle.cases.specs.Cases.{events, steps, run, book_late, Result, if_fine, back_from, if_booked, result, Worked, ◌gives◌, Holds, worked}
+use Rattle.cases.specs.Cases.{dump, refused, ended, charged, one_round, events, steps, run, book_late, Result, if_fine, back_from, if_booked, result, Worked, ◌gives◌, Holds, worked}
 
 -- ---- a plan's bytes read, checked and run; each line `unfolding` has all that it computes by
 
@@ -176,33 +179,165 @@ infixr 67 ◌and◌
 ◌and◌ : {w : Worked} {ws : List Worked} → Holds w → All Holds ws → All Holds (w ∷ ws)
 h and hs = also h hs
 
-pub worked_through : All Holds worked
+-- the case at a place of the list
+abbrev at : ℕ → Worked
+at k = get_or worked k (dump 0 [] gives refused NotLater)
+
+case_0 : Holds (at 0)
 unfolding worked result stop dumped back
+case_0 = by events 10 bay bay_fine refl
+
+case_1 : Holds (at 1)
+unfolding worked result stop dumped back
+case_1 = by events 10 (second_car 1800 10) m2_fine refl
+
+case_2 : Holds (at 2)
+unfolding worked result stop dumped back
+case_2 = by events 10 (second_car 1820 10) m3_fine refl
+
+case_3 : Holds (at 3)
+unfolding worked result stop dumped back
+case_3 = by events 10 (second_car 1821 10) m4_fine refl
+
+case_4 : Holds (at 4)
+unfolding worked result stop dumped back
+case_4 = by events 10 (second_car 1800 0) m5_fine refl
+
+case_5 : Holds (at 5)
+unfolding worked result stop dumped back
+case_5 = by events 0 bay bay_fine refl
+
+case_6 : Holds (at 6)
+unfolding worked result stop dumped back
+case_6 = by steps 0 bay bay_fine refl
+
+case_7 : Holds (at 7)
+unfolding worked result stop dumped back
+case_7 = refl
+
+case_8 : Holds (at 8)
+unfolding worked result stop dumped back
+case_8 = refl
+
+case_9 : Holds (at 9)
+unfolding worked result stop dumped back
+case_9 = refl
+
+-- M10 by steps, with its floats worked out: half a second, an idle time of a second and a half, 50 kW, and what 50 kW give in a second
+abbrev m10_session : Session
+m10_session =
+    record {
+      vehicle = 0;
+      outcome = Charged;
+      charger = 0;
+      plugin = 0;
+      unplug = 2;
+      wait = 0;
+      duration = record { 0 = fin false 1 (negsuc 0) };
+      idle = record { 0 = fin false 3 (negsuc 0) };
+      peak = record { 0 = fin false 25 (pos 1) };
+      energy = record { 0 = fin false 2001599834386887 (negsuc 56) };
+    }
+
+m10_run : if_fine Fine (stop steps 10 at_target) ≡ ended 3 (m10_session ∷ [])
+unfolding stop
+m10_run = refl
+
+m10_wanted : m10_session ≡ charged 0 0 2 0 one_round (record { 0 = ratio 3 2 })
+unfolding ratio mul div
+m10_wanted = refl
+
+case_10 : Holds (at 10)
+unfolding worked result stop dumped back
+case_10 = by steps 10 at_target m10_fine (m10_run ∙ ap (λ (s : Session). ended 3 (s ∷ [])) m10_wanted)
+
+case_11 : Holds (at 11)
+unfolding worked result stop dumped back
+case_11 = by events 10 at_target m10_fine refl
+
+case_12 : Holds (at 12)
+unfolding worked result stop dumped back
+case_12 = by events 10 (at_one_kw (kwh 168)) m12_fine refl
+
+case_13 : Holds (at 13)
+unfolding worked result stop dumped back
+case_13 = by events 10 (at_one_kw (kwh 169)) m12_refused refl
+
+case_14 : Holds (at 14)
+unfolding worked result stop dumped back
+case_14 = by events 10 (nacs_capped (record { 0 = ratio 125 2 })) lead_fine refl
+
+case_15 : Holds (at 15)
+unfolding worked result stop dumped back
+case_15 = by events 10 (nacs_capped (record { 0 = ratio 1 2 })) lead_refused refl
+
+case_16 : Holds (at 16)
+unfolding worked result stop dumped back
+case_16 = refl
+
+case_17 : Holds (at 17)
+unfolding worked result stop dumped back
+case_17 = refl
+
+case_18 : Holds (at 18)
+unfolding worked result stop dumped back
+case_18 = refl
+
+case_19 : Holds (at 19)
+unfolding worked result stop dumped back
+case_19 = refl
+
+case_20 : Holds (at 20)
+unfolding worked result stop dumped back
+case_20 = refl
+
+case_21 : Holds (at 21)
+unfolding worked result stop dumped back
+case_21 = by_booking 1 bay (late_car 200) (plan (second_car 1800 10)) late_fine m2_longer refl
+
+case_22 : Holds (at 22)
+unfolding worked result stop dumped back
+case_22 = by_booking 1 bay (late_car 100) (longer (plan bay) (late_car 100)) late_refused refl refl
+
+case_23 : Holds (at 23)
+unfolding worked result stop dumped back
+case_23 = by events 10 (vans 1 1) vans_fine refl
+
+case_24 : Holds (at 24)
+unfolding worked result stop dumped back
+case_24 = by events 10 (vans 65 1) fleet_refused refl
+
+case_25 : Holds (at 25)
+unfolding worked result stop dumped back
+case_25 = by events 10 (vans 1 65) places_refused refl
+
+pub worked_through : All Holds worked
+unfolding worked
 worked_through =
-    by events 10 bay bay_fine refl
-    and by events 10 (second_car 1800 10) m2_fine refl
-    and by events 10 (second_car 1820 10) m3_fine refl
-    and by events 10 (second_car 1821 10) m4_fine refl
-    and by events 10 (second_car 1800 0) m5_fine refl
-    and by events 0 bay bay_fine refl
-    and by steps 0 bay bay_fine refl
-    and refl
-    and refl
-    and refl
-    and by steps 10 at_target m10_fine refl
-    and by events 10 at_target m10_fine refl
-    and by events 10 (at_one_kw (kwh 168)) m12_fine refl
-    and by events 10 (at_one_kw (kwh 169)) m12_refused refl
-    and by events 10 (nacs_capped (record { 0 = ratio 125 2 })) lead_fine refl
-    and by events 10 (nacs_capped (record { 0 = ratio 1 2 })) lead_refused refl
-    and refl
-    and refl
-    and refl
-    and refl
-    and refl
-    and by_booking 1 bay (late_car 200) (plan (second_car 1800 10)) late_fine m2_longer refl
-    and by_booking 1 bay (late_car 100) (longer (plan bay) (late_car 100)) late_refused refl refl
-    and by events 10 (vans 1 1) vans_fine refl
-    and by events 10 (vans 65 1) fleet_refused refl
-    and by events 10 (vans 1 65) places_refused refl
+    case_0
+    and case_1
+    and case_2
+    and case_3
+    and case_4
+    and case_5
+    and case_6
+    and case_7
+    and case_8
+    and case_9
+    and case_10
+    and case_11
+    and case_12
+    and case_13
+    and case_14
+    and case_15
+    and case_16
+    and case_17
+    and case_18
+    and case_19
+    and case_20
+    and case_21
+    and case_22
+    and case_23
+    and case_24
+    and case_25
     and none
