@@ -6,7 +6,7 @@ use Rattle.files.proofs.stop.by_steps.Goals as goal
 
 pub run-run-requires : goal.run-run-requires
 run-run-requires c =
-    record { room = record { float_rows = omega (arith, c.requires.0.0.chargers); byte_rows = omega (arith, c.requires.0.0.chargers) }; plan = record { few = c.requires.0.0.chargers; profiles = c.requires.0.0.profiles }; vehicles = (c.requires.0.0.vehicles, c.requires.0.0.times); limit = c.requires.1; rising = c.requires.0.1 }
+    record { room = record { float_rows = omega (arith, c.requires.0.0.chargers); byte_rows = omega (arith, c.requires.0.0.chargers) }; plan = record { few = c.requires.0.0.chargers; profiles = c.requires.0.0.profiles }; vehicles = (c.requires.0.0.vehicles, c.requires.0.0.times); limit = omega (arith, c.requires.1); rising = c.requires.0.1 }
 
 pub returns : goal.returns
 returns c =
