@@ -1,0 +1,29 @@
+-- `totals::reply` meets its contract. Assumes nothing.
+use mathlib.Core.Path.{◌≡◌}
+use native.Mathlib.Omega.{arith}
+use lib.ListN.{length, take, length-take}
+use Rattle.io.specs.Counts.{IsPrefixLen}
+use Rattle.files.specs.Book.{written}
+use Rattle.program.proofs.Answered.{shown}
+use Rattle.totals.specs.Output.{output}
+use borrow.Author.Rules.{rules}
+use Rattle.totals.proofs.reply.Goals as goal
+
+pub put_line-requires : goal.put_line-requires
+put_line-requires c =
+    let room : length c.args.out.now ≡ 147 = search rules in
+    simp length-take (omega arith)
+
+pub returns-in-Refused : goal.returns-in-Refused
+unfolding output
+returns-in-Refused c =
+    let all : IsPrefixLen c.put_line.result c.put_line.new.out
+    × ((take c.put_line.result c.put_line.new.out ≡ output c.args.book.now) × (c.put_line.new.out ≡ written (output c.args.book.now) c.args.out.now)) = rw (← c.totals-answer.ensures, c.in-Refused.is) (shown _ _ _ _ (rw c.check_numbers-numbers.ensures at c.put_line.ensures.stored) (rw c.check_numbers-numbers.ensures at c.put_line.ensures.length)) in
+    record { counted = all.0; text = all.1.0; whole = all.1.1 }
+
+pub returns-in-Summed : goal.returns-in-Summed
+unfolding output
+returns-in-Summed c =
+    let all : IsPrefixLen c.put_line-in-Summed.result c.put_line-in-Summed.new.out
+    × ((take c.put_line-in-Summed.result c.put_line-in-Summed.new.out ≡ output c.args.book.now) × (c.put_line-in-Summed.new.out ≡ written (output c.args.book.now) c.args.out.now)) = rw (← c.totals-answer.ensures, c.in-Summed.is) (shown _ _ _ _ (rw c.totals_numbers-numbers.ensures at c.put_line-in-Summed.ensures.stored) (rw c.totals_numbers-numbers.ensures at c.put_line-in-Summed.ensures.length)) in
+    record { counted = all.0; text = all.1.0; whole = all.1.1 }
