@@ -51,10 +51,10 @@ extern "C" {
 
 /* The most stack that a call takes, in bytes. */
 #define SITE_CHECK_STACK 40960
-#define SITE_RUN_STACK 212992
-#define SITE_DUMP_STACK 114688
-#define SITE_CONTINUE_STACK 131072
-#define SITE_BOOK_LATE_STACK 204800
+#define SITE_RUN_STACK 311296
+#define SITE_DUMP_STACK 135168
+#define SITE_CONTINUE_STACK 139264
+#define SITE_BOOK_LATE_STACK 233472
 #define SITE_READ_BOOK_STACK 4096
 
 /* A larger allowance, also of further events, is refused by 2. */
