@@ -1,19 +1,11 @@
 -- `totals::reply` meets its contract. Assumes nothing.
 use mathlib.Core.Path.{◌≡◌}
 use native.Mathlib.Omega.{arith}
-<<<<<<< HEAD
 use lib.ListN.{length, length-take, take}
 use Rattle.plan.specs.Answer.{refusal_numbers}
 use Rattle.program.specs.Output.{line}
 use Rattle.program.proofs.Answered.{shown}
 use Rattle.totals.specs.Output.{totals_numbers, output}
-=======
-use lib.ListN.{length, take, length-take}
-use Rattle.io.specs.Counts.{IsPrefixLen}
-use Rattle.files.specs.Book.{written}
-use Rattle.program.proofs.Answered.{shown}
-use Rattle.totals.specs.Output.{output}
->>>>>>> e001623f734aefafcfa5638cca94fa4345f3c92c
 use borrow.Author.Rules.{rules}
 use Rattle.totals.proofs.reply.Goals as goal
 
@@ -25,23 +17,13 @@ put_line-requires c =
 pub returns-in-Refused : goal.returns-in-Refused
 unfolding output
 returns-in-Refused c =
-<<<<<<< HEAD
     let e : line (take 3 (refusal_numbers c.in-Refused.refusal)) ≡ output c.args.book.now = rw (← c.totals-answer.ensures, c.in-Refused.is) in
     let all = shown _ _ _ _ (rw (c.check_numbers-numbers.ensures, e) at c.put_line.ensures.stored) (rw (c.check_numbers-numbers.ensures, e) at c.put_line.ensures.length) in
-=======
-    let all : IsPrefixLen c.put_line.result c.put_line.new.out
-    × ((take c.put_line.result c.put_line.new.out ≡ output c.args.book.now) × (c.put_line.new.out ≡ written (output c.args.book.now) c.args.out.now)) = rw (← c.totals-answer.ensures, c.in-Refused.is) (shown _ _ _ _ (rw c.check_numbers-numbers.ensures at c.put_line.ensures.stored) (rw c.check_numbers-numbers.ensures at c.put_line.ensures.length)) in
->>>>>>> e001623f734aefafcfa5638cca94fa4345f3c92c
     record { counted = all.0; text = all.1.0; whole = all.1.1 }
 
 pub returns-in-Summed : goal.returns-in-Summed
 unfolding output
 returns-in-Summed c =
-<<<<<<< HEAD
     let e : line (totals_numbers c.in-Summed.t) ≡ output c.args.book.now = rw (← c.totals-answer.ensures, c.in-Summed.is) in
     let all = shown _ _ _ _ (rw (c.totals_numbers-numbers.ensures, e) at c.put_line-in-Summed.ensures.stored) (rw (c.totals_numbers-numbers.ensures, e) at c.put_line-in-Summed.ensures.length) in
-=======
-    let all : IsPrefixLen c.put_line-in-Summed.result c.put_line-in-Summed.new.out
-    × ((take c.put_line-in-Summed.result c.put_line-in-Summed.new.out ≡ output c.args.book.now) × (c.put_line-in-Summed.new.out ≡ written (output c.args.book.now) c.args.out.now)) = rw (← c.totals-answer.ensures, c.in-Summed.is) (shown _ _ _ _ (rw c.totals_numbers-numbers.ensures at c.put_line-in-Summed.ensures.stored) (rw c.totals_numbers-numbers.ensures at c.put_line-in-Summed.ensures.length)) in
->>>>>>> e001623f734aefafcfa5638cca94fa4345f3c92c
     record { counted = all.0; text = all.1.0; whole = all.1.1 }
