@@ -6,12 +6,14 @@
 Run once, at the top of the checkout, after the kit's port.py. `respelled.tsv` has the old and new names.
 Functions of src/, exported names, strings, inputs and outputs keep theirs.
 """
+import functools
 import pathlib
 import re
 import subprocess
 
 HERE = pathlib.Path(__file__).resolve().parent
 TOKEN = re.compile(r"[A-Za-z_][\w'′₀-₉⁺⁻\-→≢≡≤∷ℕ]*")
+COMMENT = {".antt": "--", ".rt": "//", ".edit": "# "}
 # A lemma whose name would fall together with its definition's, in these files alone.
 LEMMAS = {
     "crates/curve/proofs/sort/Order.antt": "put_first",
@@ -31,8 +33,17 @@ def respell(text, names):
 
 
 def quoted(text, names):
-    """In a document, only what stands between backticks."""
+    """In a document or a comment, only what stands between backticks."""
     return re.sub(r"`[^`\n]*`", lambda m: respell(m.group(0), names), text)
+
+
+def respell_code(text, names, comment):
+    """Code, line by line; of a comment only what it quotes."""
+    lines = []
+    for line in text.split("\n"):
+        code, mark, rest = line.partition(comment)
+        lines.append(respell(code, names) + mark + quoted(rest, names))
+    return "\n".join(lines)
 
 
 def main():
@@ -42,8 +53,9 @@ def main():
         path = pathlib.Path(name)
         if not path.exists() or path.is_symlink():
             continue
-        if name.startswith("crates/") and path.suffix in (".antt", ".rt", ".edit"):
-            turn, words = respell, names
+        if name.startswith("crates/") and path.suffix in COMMENT:
+            turn = functools.partial(respell_code, comment=COMMENT[path.suffix])
+            words = names
         elif path.suffix == ".md" and (name.startswith("docs/") or name == "README.md"):
             turn, words = quoted, in_documents
         else:

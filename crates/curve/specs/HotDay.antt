@@ -1,4 +1,4 @@
--- Rules. Request 13, hot_day rating: of two caps for the same profile, start and target, what the lower one takes. The rounded numbers are meant.
+-- Rules. Request 13, hot-day rating: of two caps for the same profile, start and target, what the lower one takes. The rounded numbers are meant.
 use Rattle.std.specs.Prelude.{◌≡◌, T, List, Float}
 use Rattle.std.specs.Float.Ieee.{lt, le}
 use Rattle.curve.specs.F64.{ratio, within}

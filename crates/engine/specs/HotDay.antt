@@ -1,4 +1,4 @@
--- Rules. Request 13, hot_day rating, in the words of a plan: chargers of different rated power, and what a session by events says.
+-- Rules. Request 13, hot-day rating, in the words of a plan: chargers of different rated power, and what a session by events says.
 use Rattle.std.specs.Prelude.{◌≡◌, true, T}
 use Rattle.std.specs.Float.Ieee.{le}
 use Rattle.curve.specs.HotDay.{Derated}

@@ -1,4 +1,4 @@
--- Rules. Request 13, hot_day rating, as the calls promise it: of a plan that is fine, and of the book of its run by events.
+-- Rules. Request 13, hot-day rating, as the calls promise it: of a plan that is fine, and of the book of its run by events.
 use Rattle.std.specs.Prelude.{◌≡◌, true, List, ℕ}
 use Rattle.charger.specs.Lists.{All}
 use Rattle.engine.specs.Plan.{VehiclePlace, ChargerPlace, fits, output}
@@ -25,7 +25,7 @@ pub record ByRating (plan : List ℕ) (x : BookSession) : Type 0 where
   pub vehicle : VehiclePlace
   pub charger : ChargerPlace
   pub vehicle_id : x.vehicle_id ≡ vehicle_number plan vehicle 0
-  pub charger_id_lem : x.charger_id ≡ charger_id plan charger
+  pub charger_id : x.charger_id ≡ charger_id plan charger
   pub pair : fits (read_plan plan) vehicle charger ≡ true
   pub duration : x.duration ≡ bits (output (read_plan plan) vehicle charger).duration.0
   pub peak : x.peak ≡ bits (output (read_plan plan) vehicle charger).peak.0

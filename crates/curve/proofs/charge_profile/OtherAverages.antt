@@ -1,4 +1,4 @@
--- Other averages than the rules'. Capped after the average, or with the larger for the smaller, a lower cap still gives no larger one, so the hot_day law would hold; split where the cap cuts, it may, and the law fails.
+-- Other averages than the rules'. Capped after the average, or with the larger for the smaller, a lower cap still gives no larger one, so the hot-day law would hold; split where the cap cuts, it may, and the law fails.
 use Rattle.std.proofs.Common.{◌≡◌, ◌+◌, ◌*◌, ◌^◌, true, T, refl}
 use lib.Ieee.{Float, binary64, add, sub, mul, div, lt, le, ne}
 use Rattle.curve.specs.F64.{◌⊕◌, ◌⊖◌, ◌⊗◌, ◌⊘◌, ratio, least, greatest, clear}

@@ -32,12 +32,12 @@ module _ (t : Plan) (n count now : ℕ) (s : Simulation) (F : List (List Float))
 
     pub going_ended : ended t (step_state n r F' B' then) ≡ true → RoundsDone t n count now s F B then true r F' B'
     going_ended e =
-        record { state = sym (stays t (now + count - then) (step_state n r F' B' then) e) ∙ g.same; is_ended_lem = sym e; fit = g.fit }
+        record { state = sym (stays t (now + count - then) (step_state n r F' B' then) e) ∙ g.same; is_ended = sym e; fit = g.fit }
 
     pub going_out : {over : Bool} → now + count ≤ then → over ≡ ended t (step_state n r F' B' then) → RoundsDone t n count now s F B then over r F' B'
     going_out h e =
         let none : now + count - then ≡ 0 = omega arith in
-        record { state = rw none at g.same; is_ended_lem = e; fit = g.fit }
+        record { state = rw none at g.same; is_ended = e; fit = g.fit }
 
 -- a run from the start
 pub finishes : (t : Plan) (n allowance : ℕ) {s r : Simulation} {F F' : List (List Float)} {B B' : List (List ℕ)} {used : ℕ} {over : Bool} → length t.chargers ≡ n
@@ -45,4 +45,4 @@ pub finishes : (t : Plan) (n allowance : ℕ) {s r : Simulation} {F F' : List (L
 finishes t n allowance {s} {F = F} {B = B} l b e w =
     let first : step_state n s F B 0 ≡ start t = rw (e, ← l) (ap (λ (f : SiteState ChargerState). at t f 0) (starts t (steps t) b)) in
     let whole = w.state ∙ ap (after t allowance) first in
-    record { state = whole; is_ended_lem = w.is_ended_lem ∙ ap (ended t) whole; fit = w.fit }
+    record { state = whole; is_ended = w.is_ended ∙ ap (ended t) whole; fit = w.fit }

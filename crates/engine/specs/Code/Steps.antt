@@ -74,11 +74,11 @@ pub record GoesOn (p : Plan) (n last now : ℕ) (s : Simulation) (floats : List 
 -- what `rounds` answers
 pub record RoundsDone (p : Plan) (n count now : ℕ) (s : Simulation) (floats : List (List Float)) (bytes : List (List ℕ)) (then : ℕ) (over : Bool) (r : Simulation) (floats' : List (List Float)) (bytes' : List (List ℕ)) : Type 0 where
   pub state : step_state n r floats' bytes' then ≡ after p count (step_state n s floats bytes now)
-  pub is_ended_lem : over ≡ ended p (step_state n r floats' bytes' then)
+  pub is_ended : over ≡ ended p (step_state n r floats' bytes' then)
   pub fit : RoomFor 0 r
 
 -- what `run` answers: the model's run, and whether it has ended
 pub record RunDone (p : Plan) (n allowance : ℕ) (used : ℕ) (over : Bool) (r : Simulation) (floats : List (List Float)) (bytes : List (List ℕ)) : Type 0 where
   pub state : step_state n r floats bytes used ≡ run p allowance
-  pub is_ended_lem : over ≡ ended p (run p allowance)
+  pub is_ended : over ≡ ended p (run p allowance)
   pub fit : RoomFor 0 r

@@ -113,7 +113,7 @@ module _ (plan : List ℕ) where
         vehicle = x.vehicle;
         charger = x.charger;
         vehicle_id = refl;
-        charger_id_lem = rw o;
+        charger_id = rw o;
         pair = r.pair;
         duration = rw (o, r.duration);
         peak = rw (o, r.peak);

@@ -67,7 +67,7 @@ shows_steps p n count used ended s floats bytes t f e =
     let same = f.state in
     record {
       sessions = ap (λ (m : Timestep.State). m.site.sessions) same;
-      counts = e ∙ (λ i. counted (same i).time (f.is_ended_lem i) (same i).site.pending (same i).site.queue (same i).site.sessions);
+      counts = e ∙ (λ i. counted (same i).time (f.is_ended i) (same i).site.pending (same i).site.queue (same i).site.sessions);
       few = f.fit.sound.sessions;
     }
 
