@@ -31,7 +31,7 @@ pub fn reached(points: &[Point], soc: f64) -> usize
     i
 }
 
-// The same of the first n of an array of points: whoever calls this needs no walk by hand.
+// The same of the first n of an array of points.
 fn reached_of(points: [Point; 32], n: usize, soc: f64) -> usize
     requires { n ≤ 32 }
     ensures { result ≡ Curve.reached soc (take n points) }

@@ -17,7 +17,7 @@ pub fn progress(state: &mut ChargerState)
     *state = ChargerState::progress(*state);
 }
 
-// The state comes and goes by value, so whoever calls this needs no walk by hand.
+// Both, for a state that comes and goes by value.
 pub fn advanced(state: ChargerState, cap: Kw) -> ChargerState
     ensures { result ≡ Spec.progress (Spec.with_cap cap state) }
 {

@@ -52,19 +52,6 @@ pub undumped : (plan : List ℕ) (n : ℕ) (old book dump : List ℕ) (x : Refus
 undumped plan n old book dump x = (tt, (tt, (tt, (tt, (tt, (tt, of_events [] 0 [] (Refused x) (unpromised x)))))))
 
 module _ (plan : List ℕ) (engine n room space : ℕ) where
-  -- a run that was not refused has passed the tests
-  known_by : (P : Totals → Type 0) → (7168 ≤ room → OfRun P (if_fine (check_plan plan) (Stopped (totals (by_events (read_plan plan) n))))) → OfRun P (dump_answer plan engine n room space)
-  unfolding dump_answer
-  known_by P h =
-      of_cond P (ltb 0 engine) EngineAbove _
-      (λ a. of_cond P (ltb 10000000 n) AllowanceAbove _ (λ b. of_cond P (ltb room 7168) BookUnder _ (λ c. of_cond P (ltb space 16384) DumpUnder _ (λ d. h (ltb-false room 7168 c)))))
-
-  runs : OfRun (Runs plan 0 n) (dump_answer plan engine n room space)
-  runs = known_by (Runs plan 0 n) (λ c. if_fine_lem plan 0 n (omega arith))
-
-  roomy : OfRun (λ t. 7168 ≤ room) (dump_answer plan engine n room space)
-  roomy = known_by (λ t. 7168 ≤ room) (λ c. of_map (λ t k. c) (if_fine (check_plan plan) (Stopped (totals (by_events (read_plan plan) n)))) (if_fine_lem plan 0 n (omega arith)))
-
   -- ---- the answer, by the tests in their order
 
   pub engine_some : 0 < engine → Refused EngineAbove ≡ dump_answer plan engine n room space
@@ -91,6 +78,20 @@ module _ (plan : List ℕ) (engine n room space : ℕ) where
               → dump_answer plan engine n room space ≡ if_fine (then_check x (pair_answer plan (failing_pair (read_plan plan)))) (Stopped (totals (by_events (read_plan plan) n)))
           unfolding dump_answer check_plan
           by_plan x h = rw (le-ltb 0 engine e, le-ltb 10000000 n a, le-ltb room 7168 b, le-ltb space 16384 d, h)
+
+module _ (plan : List ℕ) (engine n room space : ℕ) where
+  -- a run that was not refused has passed the tests
+  known_by : (P : Totals → Type 0) → (7168 ≤ room → OfRun P (if_fine (check_plan plan) (Stopped (totals (by_events (read_plan plan) n))))) → OfRun P (dump_answer plan engine n room space)
+  unfolding dump_answer
+  known_by P h =
+      of_cond P (ltb 0 engine) EngineAbove _
+      (λ a. of_cond P (ltb 10000000 n) AllowanceAbove _ (λ b. of_cond P (ltb room 7168) BookUnder _ (λ c. of_cond P (ltb space 16384) DumpUnder _ (λ d. h (ltb-false room 7168 c)))))
+
+  runs : OfRun (Runs plan 0 n) (dump_answer plan engine n room space)
+  runs = known_by (Runs plan 0 n) (λ c. if_fine_lem plan 0 n (omega arith))
+
+  roomy : OfRun (λ t. 7168 ≤ room) (dump_answer plan engine n room space)
+  roomy = known_by (λ t. 7168 ≤ room) (λ c. of_map (λ t k. c) (if_fine (check_plan plan) (Stopped (totals (by_events (read_plan plan) n)))) (if_fine_lem plan 0 n (omega arith)))
 
 -- the bytes of the dump
 dump_bytes_lem : (plan : List ℕ) (n : ℕ) (blank dump : List ℕ) (r : RunAnswer) → dump ≡ dump_after plan n r blank

@@ -1,4 +1,4 @@
--- `points::reached_by_points` meets its contract. The borrow checker walks it: its callees' proofs by hand are no concern of it.
+-- `points::reached_by_points` meets its contract.
 use Rattle.curve.proofs.charge_profile.Segments.{reached_bounded}
 use Rattle.curve.proofs.points.reached_by_points.Goals as goal
 

@@ -9,7 +9,7 @@ use Rattle.engine.proofs.site.balks.Goals as goal
 pub returns-then-vehicle-queue : goal.returns-then-vehicle-queue
 unfolding balks
 returns-then-vehicle-queue c =
-    rw (← c.get_vehicle-vehicle.ensures, length-waiting c.args.queue (search (rules, length_mapped)) c.requires, le-leb c.get_vehicle-vehicle.result.limit c.args.queue.len c.if-vehicle-queue.true)
+    rw (← c.get_vehicle-vehicle.ensures, length-waiting c.args.queue (search (rules, length_mapped)) c.requires, le-leb c.get_vehicle-vehicle.result.limit c.args.queue.len (omega arith))
 
 pub returns : goal.returns
 unfolding balks
