@@ -111,7 +111,7 @@ def written_by(program, data):
     try:
         return subprocess.run([program], input=data, stdout=subprocess.PIPE).stdout
     except FileNotFoundError:
-        raise Failed(f"{program}: there is no such program; rt check totals builds it") from None
+        raise Failed(f"{program}: there is no such program; bash examples/run builds it") from None
     except OSError as error:
         raise Failed(f"{program}: {error.strerror}") from None
 

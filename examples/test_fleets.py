@@ -23,7 +23,7 @@ def output(engine, data):
     return subprocess.run([PROGRAM], input=struct.pack("<BI", engine, 10_000_000) + data, capture_output=True).stdout
 
 
-@unittest.skipUnless(PROGRAM.exists(), "the program is not built: rt check site")
+@unittest.skipUnless(PROGRAM.exists(), "the program is not built: bash examples/run")
 class Example(unittest.TestCase):
     def read(self, engine, places):
         of_plan = plan_of(places)

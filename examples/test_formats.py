@@ -55,7 +55,7 @@ class Page(unittest.TestCase):
         self.assertEqual((read.engine, read.ended, read.used, len(read.sessions)), ("events", True, 3, 1))
         self.assertEqual((read.sessions[0].unplug, read.sessions[0].energy_kwh), (2020, 25.0))
 
-    @unittest.skipUnless(PROGRAM.exists(), "the program is not built: rt check site")
+    @unittest.skipUnless(PROGRAM.exists(), "the program is not built: bash examples/run")
     def test_the_book_is_what_the_program_writes(self):
         done = subprocess.run([PROGRAM], input=b"\0\x64\0\0\0" + self.plan, capture_output=True)
         self.assertEqual(done.stdout, self.book)
@@ -70,7 +70,7 @@ class Page(unittest.TestCase):
         [line] = TOTALS.findall(PAGE)
         self.assertEqual(totals.read(line.encode()), Totals((0, 1, 0, 0), 25.0, 0))
 
-    @unittest.skipUnless(READER.exists(), "the program is not built: rt check totals")
+    @unittest.skipUnless(READER.exists(), "the program is not built: bash examples/run")
     def test_the_totals_are_what_the_program_writes(self):
         done = subprocess.run([READER], input=self.book, capture_output=True)
         self.assertEqual([done.stdout.decode()], TOTALS.findall(PAGE))

@@ -153,7 +153,7 @@ class Tool(Commands):
         self.assertEqual(sitebook.parser().parse_args(["totals", self.first]).reader, PROGRAM)
 
     def test_a_program_that_is_not_there(self):
-        self.assertEqual(self.refused(self.first, reader="none/totals"), "none/totals: there is no such program; rt check totals builds it\n")
+        self.assertEqual(self.refused(self.first, reader="none/totals"), "none/totals: there is no such program; bash examples/run builds it\n")
 
     def test_a_program_that_cannot_be_run(self):
         self.assertEqual(self.refused(self.first, reader=self.first), f"{self.first}: Permission denied\n")
@@ -167,7 +167,7 @@ class Tool(Commands):
         self.assertIn("none.book: No such file", self.refused("none.book"))
 
 
-@unittest.skipUnless(PROGRAM.exists(), "the program is not built: rt check totals")
+@unittest.skipUnless(PROGRAM.exists(), "the program is not built: bash examples/run")
 class Program(Commands):
     def says(self, data):
         return subprocess.run([PROGRAM], input=data, capture_output=True).stdout.decode()

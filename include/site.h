@@ -1,6 +1,6 @@
 /* The joined site engine for C and C++: check a plan, run it, dump a run, book a late car into it and continue it, read a book back.
  *
- * `rt staticlib calls` proves the functions and writes target/staticlib/libcalls.a, for x86-64 Linux. It needs nothing
+ * `bash examples/link` proves the functions and makes target/staticlib/libcalls.a, for x86-64 Linux. It needs nothing
  * but memcpy and memset, so no further library is named:
  *
  *     cc main.c -Iinclude target/staticlib/libcalls.a

@@ -36,7 +36,7 @@ fn main() {
     let name = name.strip_prefix("lib").and_then(|name| name.strip_suffix(".a"));
     let (Some(name), true) = (name, archive.is_file()) else {
         println!(
-            "cargo::error=SITE_ARCHIVE is {}, which is no libNAME.a: `rt staticlib calls` makes one",
+            "cargo::error=SITE_ARCHIVE is {}, which is no libNAME.a: `bash examples/link` makes one",
             archive.display()
         );
         return;
