@@ -1,5 +1,5 @@
 // The even shares of a limit, in whole watts.
-ghost use Rattle.std.specs.Prelude.{◌≡◌, ◌^◌, ◌<◌, min, nat_le};
+ghost use Rattle.std.specs.Prelude.{◌≡◌, ◌^◌, ◌<◌, nat_le};
 ghost use Rattle.shares.specs.Shares.{total, Level, level, left_over, share_of, left_after, given, shares};
 ghost use Rattle.shares.specs.Fair.{Fair};
 ghost use Rattle.shares.specs.Code.Parted as Spec;
@@ -23,14 +23,11 @@ fn fit(requests: &[u64], limit: u64) -> bool
     ensures { result ≡ nat_le (total requests.now) limit }
 {
     let mut left = limit;
-    let mut i = 0;
-    while i < requests.len() {
-        let w = requests[i];
-        if left < w {
+    for w in requests {
+        if left < *w {
             return false;
         }
-        left -= w;
-        i += 1;
+        left -= *w;
     }
     true
 }
@@ -42,15 +39,12 @@ fn part(requests: &[u64], level: u64) -> Parted
 {
     let mut under: u64 = 0;
     let mut above: u64 = 0;
-    let mut i = 0;
-    while i < requests.len() {
-        let w = requests[i];
-        if level < w {
+    for w in requests {
+        if level < *w {
             above += 1;
         } else {
-            under += w;
+            under += *w;
         }
-        i += 1;
     }
     Parted { under, above }
 }
@@ -75,13 +69,6 @@ fn level_of(requests: &[u64], limit: u64) -> Levelled
         }
         level = next;
     }
-}
-
-// Of two numbers the smaller.
-pub fn smaller(a: u64, b: u64) -> u64
-    ensures { result ≡ min a b }
-{
-    if a < b { a } else { b }
 }
 
 fn share_of(level: u64, left: u64, request: u64) -> u64
@@ -109,12 +96,10 @@ fn give(watts: &mut [u64], level: u64, left: u64)
     ensures { watts.new ≡ given level left watts.old }
 {
     let mut rest = left;
-    let mut i = 0;
-    while i < watts.len() {
-        let w = watts[i];
-        watts[i] = share_of(level, rest, w);
-        rest = left_after(level, rest, w);
-        i += 1;
+    for w in watts.iter_mut() {
+        let request = *w;
+        *w = share_of(level, rest, request);
+        rest = left_after(level, rest, request);
     }
 }
 
