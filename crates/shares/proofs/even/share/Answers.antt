@@ -13,9 +13,6 @@ returns-then-fit c =
     in
     record { shared = e; fair = subst (λ s. Fair c.args.watts.now c.args.limit s) (sym e) (fair c.args.watts.now c.args.limit); largest = level_is c.args.watts.now c.args.limit }
 
-pub level_of-found-requires : goal.level_of-found-requires
-level_of-found-requires c = leb-false _ _ (sym c.fit.ensures ∙ c.if-fit.false)
-
 pub returns : goal.returns
 returns c =
     let e : c.give.new.watts ≡ shares c.args.watts.now c.args.limit
