@@ -2,7 +2,7 @@
 ghost use Rattle.std.specs.Prelude.{◌≡◌, ◌≤◌, length};
 ghost use Rattle.engine.specs.Code.Simulation.{model};
 ghost use Rattle.files.specs.Book.{written};
-ghost use Rattle.dump.specs.Dump.{dump_bytes, starts_with};
+ghost use Rattle.dump.specs.Dump.{dump_bytes};
 ghost use Rattle.dump.specs.Code.Dumping.{Dumpable};
 
 use crate::event_blocks::put_event_blocks;
@@ -24,6 +24,7 @@ pub fn put_dump(
     requires { Dumpable plan.now vehicles rows state chargers × (16384 ≤ length s.old) }
     ensures bytes { s.new ≡ written (dump_bytes plan.now (model chargers state)) s.old }
     ensures length { result ≡ length (dump_bytes plan.now (model chargers state)) }
+    ensures within { result ≤ length s.new }
 {
     let simulation = state.simulation;
     let events = simulation.events;
@@ -35,21 +36,4 @@ pub fn put_dump(
     put_event_blocks(s, 512, 2, plan, events);
     put_session_blocks(s, 512 + 512 * blocks, 2 + blocks as u32, all, n);
     512 + 512 * blocks + 512 * ((n + 4) / 5)
-}
-
-// Whether some bytes begin with those of a file.
-pub fn starts_with(b: &[u8], file: &[u8]) -> bool
-    ensures { result ≡ starts_with file.now b.now }
-{
-    if b.len() < file.len() {
-        return false;
-    }
-    let mut k = 0;
-    while k < file.len() {
-        if b[k] != file[k] {
-            return false;
-        }
-        k += 1;
-    }
-    true
 }

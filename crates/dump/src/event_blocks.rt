@@ -55,10 +55,8 @@ fn event_rows(plan: &[u8], events: EventQueue) -> [[u64; 3]; 217]
     let head = events.head;
     let tail = events.tail;
     let mut rows = [[0u64; 3]; 217];
-    let mut i = head;
-    while i < tail {
+    for i in head..tail {
         rows[i - head] = event_row(plan, all[i]);
-        i += 1;
     }
     rows
 }
@@ -77,10 +75,8 @@ fn put_events(s: &mut [u8], at: usize, rows: &[[u64; 3]], k: usize)
     requires { (at + 496 ≤ length s.old) × (k + 31 ≤ length rows.now) }
     ensures { s.new ≡ sets s.old at (pieces (row_slot rows.now) k 31) }
 {
-    let mut i: usize = 0;
-    while i < 31 {
+    for i in 0..31 {
         put_event(s, at + 16 * i, rows[k + i]);
-        i += 1;
     }
 }
 
@@ -99,10 +95,8 @@ fn put_row_blocks(s: &mut [u8], at: usize, place: u32, rows: &[[u64; 3]], blocks
     requires { (place ≤ 65536) × ((blocks ≤ 7) × ((at + 512 * blocks ≤ length s.old) × (217 ≤ length rows.now))) }
     ensures { s.new ≡ sets s.old at (pieces (row_block place rows.now) 0 blocks) }
 {
-    let mut j: usize = 0;
-    while j < blocks {
+    for j in 0..blocks {
         put_event_block(s, at + 512 * j, place + j as u32, rows, 31 * j);
-        j += 1;
     }
 }
 

@@ -40,10 +40,8 @@ fn queue_blocks(plan: &[u8], queue: WaitingQueue) -> [u64; 64]
     let ids = queue.ids;
     let n = queue.len;
     let mut blocks = [0u64; 64];
-    let mut i = 0;
-    while i < n {
+    for i in 0..n {
         blocks[i] = place_of(plan, Kind::Vehicle, ids[i]) as u64;
-        i += 1;
     }
     blocks
 }
@@ -77,10 +75,8 @@ fn busy_blocks(plan: &[u8], places: [u8; 32], chargers: usize) -> Busy
         blocks: [0; 64],
         count: 0,
     };
-    let mut c = 0;
-    while c < chargers {
+    for c in 0..chargers {
         busy = with_busy(plan, busy, c, places[c]);
-        c += 1;
     }
     busy
 }
@@ -90,10 +86,8 @@ fn put_table(s: &mut [u8], at: usize, blocks: [u64; 64])
     requires { at + 128 ≤ length s.old }
     ensures { s.new ≡ sets s.old at (table blocks) }
 {
-    let mut i: usize = 0;
-    while i < 64 {
-        put(s, at + 2 * i, 2, blocks[i]);
-        i += 1;
+    for (i, block) in blocks.iter().enumerate() {
+        put(s, at + 2 * i, 2, *block);
     }
 }
 

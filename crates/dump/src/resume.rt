@@ -16,7 +16,7 @@ ghost use Rattle.dump.specs.Call.{continued_to, continued_answer};
 ghost use Rattle.dump.specs.Code.Dumping.{Dumpable};
 ghost use Rattle.dump.specs.Continued.{Unbroken, Reached, InParts, EndedStays, MoreStays};
 
-use crate::dump::{put_dump, starts_with};
+use crate::dump::put_dump;
 use engine::discrete;
 use engine::discrete::State;
 use engine::site::Site;
@@ -34,7 +34,8 @@ pub fn is_dump(dump: &[u8], plan: &[u8], site: Site, rows: [[bool; 5]; 32], stat
     let vehicles = site.vehicles;
     let mut laid = [0u8; 16384];
     let n = put_dump(&mut laid, plan, vehicles, rows, state, site.count);
-    starts_with(dump, &laid[..n])
+    let file = &laid[..n];
+    dump.starts_with(file)
 }
 
 // Goes on from a state that the run of a plan has reached, and writes the book.

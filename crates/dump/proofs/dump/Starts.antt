@@ -1,17 +1,21 @@
 -- Bytes that begin with those of a file. Assumes nothing.
-use mathlib.Core.Path.{◌≡◌, sym, ap, ◌∙◌}
+use mathlib.Core.Path.{◌≡◌, refl, sym, ap, ◌∙◌}
 use mathlib.Core.Bool.{Bool, true, false}
 use mathlib.Core.List.{List, ◌++◌}
-use Prim.Native.Nat.{ℕ, ◌<◌}
+use Prim.Native.Nat.{ℕ, ◌<◌, ◌≤◌}
 use native.Mathlib.Omega.{arith}
 use borrow.Author.Tests.{le-leb, lt-leb, leb-true, eq-eqb, eqb-true}
 use lib.Dec.{leb, eqb}
 use lib.ListN.{length, get_or, take, drop, length-append, take-append-drop, get_or-append}
-use lib.Seq.{ext_get_or, get_or-take, length-take-le}
+use lib.Seq.{ext_get_or, get_or-take, length-take-le, take_at}
+use Rattle.std.specs.Cmp.Lexicographic.{pointwise}
+use Rattle.std.proofs.lemmas.Bool.Decides.{Decides-eqb, same_from_decides}
+use Rattle.std.proofs.lemmas.Slice.Eq.{starts_is}
 use Rattle.charger.proofs.Lists.{and_true}
 use Rattle.plan.specs.Search.{every}
 use Rattle.plan.proofs.SearchLaws.{every_at, every_of}
 use Rattle.plan.proofs.bytes.Laws.{Begins}
+use Rattle.files.specs.Book.{written}
 use Rattle.dump.specs.Dump.{starts_with}
 
 -- they are the file's bytes and what follows
@@ -37,3 +41,20 @@ starts_with_lem file rest =
 pub too_short : (file b : List ℕ) → length b < length file → starts_with file b ≡ false
 unfolding starts_with
 too_short file b h = rw (lt-leb (length file) (length b) h)
+
+-- the test of the library's method is the same one
+pub same_test : (file b : List ℕ) → pointwise eqb file (take (length file) b) ≡ starts_with file b
+unfolding Begins
+same_test file b =
+    let P : Type 0 = (r : List ℕ) × (b ≡ file ++ r) in
+    let theirs = starts_is Decides-eqb b file (pointwise eqb file (take (length file) b)) refl in
+    same_from_decides {P = P} _ _ ((λ h. (drop (length file) b, theirs.0 h)), λ g. theirs.1 g.0 g.1) (starts file b, λ g. rw g.1 (starts_with_lem file g.0))
+
+-- a file stored at the front of a buffer lies within it, and is what it begins with
+pub within : (file old b : List ℕ) (n : ℕ) → b ≡ written file old → n ≡ length file → n ≤ length b
+unfolding written
+within file old b n e l = rw (e, length-append) (omega arith)
+
+pub first : (file old b : List ℕ) (n : ℕ) → b ≡ written file old → n ≡ length file → take n b ≡ file
+unfolding written
+first file old b n e l = rw e (take_at file (drop (length file) old) n (sym l))

@@ -9,6 +9,7 @@ use Rattle.engine.specs.Code.Simulation.{pending, booked, model}
 use Rattle.files.specs.BookSession.{book_sessions}
 use Rattle.dump.specs.Dump.{dump_bytes}
 use Rattle.dump.proofs.dump.Laws.{length_dump, put_whole}
+use Rattle.dump.proofs.dump.Starts.{within}
 use borrow.Author.Rules.{rules}
 use Rattle.dump.proofs.dump.put_dump.Goals as goal
 
@@ -34,9 +35,9 @@ returns c =
     let events : length (pending c.args.state.simulation.events) ≡ c.args.state.simulation.events.tail - c.args.state.simulation.events.head = simp (length-drop, length-take) (omega (arith, c.requires.0.sound.events)) in
     let sessions : length xs ≡ c.args.state.simulation.sessions.len = rw (← first) (length-take-le c.args.state.simulation.sessions.len c.entries-all.result (omega (arith, c.requires.0.sound.sessions))) in
     let long : length (dump_bytes c.args.plan.now s) ≡ 512 + 512 * ((c.args.state.simulation.events.tail - c.args.state.simulation.events.head + 30) / 31) + 512 * ((c.args.state.simulation.sessions.len + 4) / 5) = rw (events, sessions) at (length_dump c.args.plan.now s) in
-    let room : length (dump_bytes c.args.plan.now s) ≤ length c.args.s.now = omega (arith, long, c.requires.1, c.requires.0.sound.events, c.requires.0.sound.sessions) in record {
-      bytes = put_whole c.args.plan.now s c.args.s.now _ _ _ room c.put_state.ensures
-          c.put_event_blocks.ensures
-          (rw (events, ← first) c.put_session_blocks.ensures);
-      length = sym long;
-    }
+    let room : length (dump_bytes c.args.plan.now s) ≤ length c.args.s.now = omega (arith, long, c.requires.1, c.requires.0.sound.events, c.requires.0.sound.sessions) in
+    let bytes = put_whole c.args.plan.now s c.args.s.now _ _ _ room c.put_state.ensures
+    c.put_event_blocks.ensures
+    (rw (events, ← first) c.put_session_blocks.ensures)
+    in
+    record { bytes = bytes; length = sym long; within = within (dump_bytes c.args.plan.now s) c.args.s.now _ _ bytes (sym long) }

@@ -28,36 +28,19 @@ near all head tail i h k l a =
 
 pub loop-i-init : goal.loop-i-init
 loop-i-init c =
-    (omega arith, (c.requires.1.1.0, (refl, rw (part_end c.args.events.all c.args.events.head c.args.events.head (omega arith)) (laid_none no_row 217))))
+    (refl, rw (part_end c.args.events.all c.args.events.head c.args.events.head (omega arith)) (laid_none no_row 217))
 
 pub event_row-requires : goal.event_row-requires
 event_row-requires c =
     let long : length c.args.events.all ≡ 192 = search (rules, length_mapped) in
-    (c.requires.0, near c.args.events.all c.args.events.head c.args.events.tail c.loop-i.i c.loop-i.invariant.0 c.loop-i-test.true (omega (arith, c.requires.1.1.1)) c.requires.1.0)
-
-pub overflow_sub-rows : goal.overflow_sub-rows
-overflow_sub-rows c = omega arith
-
-pub overflow_add-i : goal.overflow_add-i
-overflow_add-i c = omega arith
-
-pub loop-i-smaller : goal.loop-i-smaller
-loop-i-smaller c = omega arith
+    (c.requires.0, near c.args.events.all c.args.events.head c.args.events.tail c.loop-i.i (omega arith) (omega arith) (omega (arith, c.requires.1.1.1)) c.requires.1.0)
 
 pub loop-i-preserved : goal.loop-i-preserved
 loop-i-preserved c =
-    let long : length c.args.events.all ≡ 192 = search (rules, length_mapped) in (
-      omega arith,
-      (
-        omega arith,
-        (
-          simp length-set c.loop-i.invariant.1.1.0,
-          laid_part no_row (event_row c.args.plan.now) c.args.events.all c.args.events.head (c.loop-i.i - c.args.events.head) c.loop-i.i (arrival 0 0) c.loop-i.rows _ (omega arith) (omega arith) (omega arith) c.event_row.ensures c.loop-i.invariant.1.1.1,
-        ),
-      ),
-    )
+    let long : length c.args.events.all ≡ 192 = search (rules, length_mapped) in
+    (simp length-set c.loop-i.invariant.0, laid_part no_row (event_row c.args.plan.now) c.args.events.all c.args.events.head (c.loop-i.i - c.args.events.head) c.loop-i.i (arrival 0 0) c.loop-i.rows _ (omega arith) (omega arith) (omega arith) c.event_row.ensures c.loop-i.invariant.1)
 
 pub returns : goal.returns
 returns c =
     let all : c.loop-i.i ≡ c.args.events.tail = omega arith in
-    rw all at c.loop-i.invariant.1.1.1
+    rw all at c.loop-i.invariant.1

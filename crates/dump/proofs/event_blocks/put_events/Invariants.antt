@@ -1,7 +1,6 @@
--- `dump::event_blocks::put_events` meets its contract. Assumes nothing.
+-- `event_blocks::put_events` meets its contract. The loop's invariant: what is still to be put, put, gives the whole.
 use mathlib.Core.Path.{◌≡◌}
-use Prim.Native.Nat.{◌+◌, ◌-◌, ◌*◌, ◌≤◌}
-use lib.ListN.{length}
+use Prim.Native.Nat.{◌+◌, ◌-◌, ◌*◌}
 use lib.Seq.{sets}
 use Rattle.plan.specs.Bytes.{pieces}
 use Rattle.dump.specs.Code.Laid.{row_slot}
@@ -9,9 +8,4 @@ use Rattle.dump.proofs.event_blocks.put_events.Given as goal
 
 abbrev pub invariant-loop-i : goal.invariant-loop-i
 invariant-loop-i l =
-    (l.i ≤ 31)
-    × ((length l.s ≡ length l.initial.s)
-    × (sets l.s (l.at + 16 * l.i) (pieces (row_slot l.rows) (l.k + l.i) (31 - l.i)) ≡ sets l.initial.s l.at (pieces (row_slot l.rows) l.k 31)))
-
-abbrev pub decreases-loop-i : goal.decreases-loop-i
-decreases-loop-i l = 31 - l.i
+    sets l.s (l.at + 16 * l.i) (pieces (row_slot l.rows) (l.k + l.i) (31 - l.i)) ≡ sets l.initial.s l.at (pieces (row_slot l.rows) l.k 31)

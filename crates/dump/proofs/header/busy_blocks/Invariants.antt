@@ -1,7 +1,5 @@
--- `dump::header::busy_blocks` meets its contract. Assumes nothing.
-use mathlib.Core.Path.{◌≡◌}
-use Prim.Native.Nat.{◌-◌, ◌≤◌}
-use lib.ListN.{take}
+-- `header::busy_blocks` meets its contract. The loop's invariant: the blocks of the busy ones passed are laid, and counted.
+use Rattle.std.proofs.Common.{◌≡◌, ◌≤◌, take}
 use Rattle.charger.specs.Lists.{count}
 use Rattle.engine.specs.Code.Simulation.{occupants}
 use Rattle.dump.specs.Dump.{busy_blocks, is_busy}
@@ -10,10 +8,6 @@ use Rattle.dump.proofs.header.busy_blocks.Given as goal
 
 abbrev pub invariant-loop-c : goal.invariant-loop-c
 invariant-loop-c l =
-    (l.c ≤ l.chargers)
-    × ((l.busy.count ≤ l.c)
-    × ((l.busy.count ≡ count is_busy (occupants (take l.c l.places)))
-    × Laid 0 (busy_blocks l.plan 0 (occupants (take l.c l.places))) l.busy.blocks))
-
-abbrev pub decreases-loop-c : goal.decreases-loop-c
-decreases-loop-c l = l.chargers - l.c
+    (l.busy.count ≤ l.c)
+    × (l.busy.count ≡ count is_busy (occupants (take l.c l.places)))
+    × Laid 0 (busy_blocks l.plan 0 (occupants (take l.c l.places))) l.busy.blocks
