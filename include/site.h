@@ -50,11 +50,11 @@ extern "C" {
 #define SITE_QUEUE_PLACES_MOST 64
 
 /* The most stack that a call takes, in bytes. */
-#define SITE_CHECK_STACK 40960
-#define SITE_RUN_STACK 311296
-#define SITE_DUMP_STACK 135168
-#define SITE_CONTINUE_STACK 139264
-#define SITE_BOOK_LATE_STACK 233472
+#define SITE_CHECK_STACK 24576
+#define SITE_RUN_STACK 98304
+#define SITE_DUMP_STACK 65536
+#define SITE_CONTINUE_STACK 94208
+#define SITE_BOOK_LATE_STACK 184320
 #define SITE_READ_BOOK_STACK 4096
 
 /* A larger allowance, also of further events, is refused by 2. */

@@ -1,9 +1,7 @@
 -- Rules. Request 5, sentence by sentence: which books are accepted, and that their sessions come back bit for bit.
-use Rattle.std.specs.Prelude.{ℕ, ◌^◌, ◌≤◌, ◌<◌, ◌≡◌, true, List, length}
+use Rattle.std.specs.Prelude.{ℕ, ◌^◌, ◌≤◌, ◌<◌, ◌≡◌, true, List, length, Ok}
 use Rattle.charger.specs.Lists.{tick, All}
 use Rattle.plan.specs.Search.{holds}
-use Rattle.plan.specs.declared.answer.Answer.TheVariants.{Fine}
-use Rattle.plan.specs.declared.answer.RunAnswer.TheVariants.{Stopped}
 use Rattle.plan.specs.declared.answer.Totals.{Totals}
 use Rattle.engine.specs.Demand.{Stop}
 use Rattle.files.specs.Read.{read_plan}
@@ -48,6 +46,6 @@ ran_to plan engine s = record { engine = engine; ended = tick s.ended; used = s.
 -- the book that a run wrote, of which `run` promises `back`, is accepted, and gives the run's sessions
 abbrev pub OfRuns : List ℕ → Reading → Type 0
 OfRuns book r =
-    (plan : List ℕ) (engine n : ℕ) (t : Totals) (buffer : List ℕ) → check_plan plan ≡ Fine → engine ≤ 1 → n < 2 ^ 64 → ReadsBack plan engine n buffer (Stopped t)
+    (plan : List ℕ) (engine n : ℕ) (t : Totals) (buffer : List ℕ) → check_plan plan ≡ Ok tt → engine ≤ 1 → n < 2 ^ 64 → ReadsBack plan engine n buffer (Ok t)
     → let s = stop_of (read_plan plan) engine n in
     book ≡ book_of plan engine s → r ≡ contents (ran_to plan engine s)

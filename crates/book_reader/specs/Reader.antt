@@ -1,5 +1,5 @@
 -- Rules. Request 5, reading the book back: when a book is refused, and what it gives back.
-use Rattle.std.specs.Prelude.{ℕ, ◌+◌, ◌-◌, ◌*◌, ◌/◌, min, Bool, cond, not, ◌&&◌, List, [], ◌∷◌, leb, eqb, length, get_or, drop, replicate}
+use Rattle.std.specs.Prelude.{ℕ, ◌+◌, ◌-◌, ◌*◌, ◌/◌, min, Bool, cond, not, ◌&&◌, List, [], ◌∷◌, leb, eqb, length, get_or, drop, replicate, Result, Ok, Err}
 use Rattle.plan.specs.Answer.{refusal_numbers}
 use Rattle.plan.specs.Bytes.{le_at, pieces}
 use Rattle.plan.specs.Blocks.{passes, block, whole_blocks}
@@ -7,8 +7,6 @@ use Rattle.plan.specs.Fields.{zeros}
 use Rattle.plan.specs.Search.{every, holds}
 use Rattle.plan.specs.declared.answer.Refusal.{Refusal}
 use Rattle.plan.specs.declared.answer.Refusal.TheVariants.{BookDamaged, BookAgainstRules}
-use Rattle.plan.specs.declared.answer.Answer.{Answer}
-use Rattle.plan.specs.declared.answer.Answer.TheVariants.{Fine, Refused}
 use Rattle.files.specs.BookSession.{no_session}
 use Rattle.files.specs.SessionBlocks.{session_of}
 use Rattle.files.specs.Book.{session_count, book_offset, sessions_in}
@@ -51,8 +49,8 @@ against_rules b =
 
 -- ---- the answer: 15 over the whole book first
 
-unfoldable pub test_answer : List ℕ → Answer
-test_answer b = cond (damaged b) (Refused BookDamaged) (cond (against_rules b) (Refused BookAgainstRules) Fine)
+unfoldable pub test_answer : List ℕ → Result (Unit {0}) Refusal
+test_answer b = cond (damaged b) (Err BookDamaged) (cond (against_rules b) (Err BookAgainstRules) (Ok tt))
 
 -- ---- what comes back
 
@@ -70,9 +68,9 @@ pub data Reading : Type 0 where
   refused : Refusal → Reading
   contents : Contents → Reading
 
-abbrev pub if_fine : Answer → Contents → Reading
-if_fine Fine c = contents c
-if_fine (Refused x) c = refused x
+abbrev pub if_fine : Result (Unit {0}) Refusal → Contents → Reading
+if_fine (Ok u) c = contents c
+if_fine (Err x) c = refused x
 
 unfoldable pub read_book : List ℕ → Reading
 read_book b = if_fine (test_answer b) (contents_of b)

@@ -1,5 +1,5 @@
 -- Rules. Totals of a book, for planners: sessions by outcome, the energy of the charged ones, the longest wait.
-use Rattle.std.specs.Prelude.{ℕ, max, Bool, cond, List, [], ◌∷◌, eqb}
+use Rattle.std.specs.Prelude.{ℕ, max, Bool, cond, List, [], ◌∷◌, eqb, Result, Ok, Err}
 use Rattle.std.specs.Float.{binary64}
 use Rattle.std.specs.Float.Ieee.{of_bits}
 use Rattle.curve.specs.F64.{◌⊕◌, ratio}
@@ -9,8 +9,7 @@ use Rattle.files.specs.BookSession.{charged}
 use Rattle.files.specs.declared.book_session.BookSession.{BookSession}
 use Rattle.book_reader.specs.Reader.{Reading, refused, contents}
 use Rattle.book_reader.specs.declared.totals.BookTotals.{BookTotals}
-use Rattle.book_reader.specs.declared.totals.TotalsAnswer.{TotalsAnswer}
-use Rattle.book_reader.specs.declared.totals.TotalsAnswer.TheVariants.{Refused, Summed}
+use Rattle.plan.specs.declared.answer.Refusal.{Refusal}
 
 abbrev pub of_outcome : ℕ → BookSession → Bool
 of_outcome k x = eqb x.outcome k
@@ -41,6 +40,6 @@ totals_of xs =
     }
 
 -- those of a book that is accepted
-abbrev pub totals_answer : Reading → TotalsAnswer
-totals_answer (refused x) = Refused x
-totals_answer (contents c) = Summed (totals_of c.sessions)
+abbrev pub totals_answer : Reading → Result BookTotals Refusal
+totals_answer (refused x) = Err x
+totals_answer (contents c) = Ok (totals_of c.sessions)

@@ -14,12 +14,10 @@ fn all_pass(book: &[u8], n: usize) -> bool
     requires { (512 * n ≤ length book.now) × (n ≤ 14) }
     ensures { result ≡ every (λ k. Blocks·passes (k + 1) (block book.now k)) 0 n }
 {
-    let mut k = 0;
-    while k < n {
+    for k in 0..n {
         if !passes(book, k) {
             return false;
         }
-        k += 1;
     }
     true
 }

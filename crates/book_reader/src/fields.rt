@@ -70,8 +70,7 @@ pub fn rest_ok(book: &[u8], n: usize, j: usize) -> bool
     requires { Room book.now n × (5 * j < n) }
     ensures { result ≡ rest_ok book.now j }
 {
-    let left = n - 5 * j;
-    let there = if left < 5 { left } else { 5 };
+    let there = (n - 5 * j).min(5);
     let start = 512 + 512 * j;
     zeros(book, start + 96 * there, start + 508)
 }

@@ -10,7 +10,7 @@ ghost use Rattle.book_reader.specs.Accepted.{OfWriter, ComesBack, Unique, OfRuns
 use crate::reader::{BookHeader, header_of, test_book};
 use crate::sessions::session_at;
 use files::book_session::BookSession;
-use plan::answer::{Answer, check_numbers};
+use plan::answer::check_numbers;
 
 // A session's sixteen numbers.
 fn session_numbers(x: BookSession) -> [u64; 16]
@@ -41,11 +41,7 @@ fn put_numbers(out: &mut [u64], at: usize, row: [u64; 16])
     requires { at + 16 ≤ length out.old }
     ensures { out.new ≡ sets out.old at row }
 {
-    let mut i: usize = 0;
-    while i < 16 {
-        out[at + i] = row[i];
-        i += 1;
-    }
+    out[at..at + 16].copy_from_slice(&row);
 }
 
 // Stores the numbers of a book's n sessions into out, and zeros past them.
@@ -53,10 +49,8 @@ fn put_sessions(out: &mut [u64], book: &[u8], n: usize)
     requires { Room book.now n × (length out.old ≡ 1024) }
     ensures { out.new ≡ pieces (numbers_at (sessions_in book.now)) 0 64 }
 {
-    let mut k: usize = 0;
-    while k < 64 {
+    for k in 0..64 {
         put_numbers(out, 16 * k, session_numbers(session_at(book, n, k)));
-        k += 1;
     }
 }
 
@@ -79,8 +73,8 @@ pub fn read_numbers(book: &[u8], header: &mut [u64; 4], sessions: &mut [u64; 102
     let answer = test_book(book);
     let numbers = check_numbers(answer);
     match answer {
-        Answer::Refused(_) => numbers,
-        Answer::Fine => {
+        Err(_) => numbers,
+        Ok(()) => {
             let h = header_of(book);
             put_sessions(sessions, book, h.count);
             *header = header_numbers(h);

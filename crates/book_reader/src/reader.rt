@@ -1,4 +1,4 @@
-// The reader: a book's header and sessions by value, or a refusal.
+// The reader: a book's header and sessions, or a refusal.
 ghost use Rattle.std.specs.Prelude.{◌≡◌, ◌≤◌, length};
 ghost use Rattle.book_reader.specs.Reader.{test_answer, read_book};
 ghost use Rattle.book_reader.specs.Accepted.{OfWriter, ComesBack, Unique, OfRuns};
@@ -7,8 +7,9 @@ ghost use Rattle.book_reader.specs.Code.Read.{header_of, reading, Beside};
 use crate::blocks::damaged;
 use crate::fields::header_ok;
 use crate::sessions::{read_sessions, rests_ok, sessions_ok};
-use files::book_session::{BookSession, no_session};
-use plan::answer::{Answer, Refusal};
+use arrayvec::ArrayVec;
+use files::book_session::BookSession;
+use plan::answer::Refusal;
 use plan::bytes::{u8_at, u16_at, u64_at};
 
 // What a book's header says.
@@ -20,34 +21,28 @@ pub struct BookHeader {
     pub used: u64,
 }
 
-#[derive(Clone, Copy)]
-pub enum BookAnswer {
-    Refused(Refusal),
-    Read(BookHeader),
-}
-
-// The answer, and beside it the sessions: the first `count` of the array.
-#[derive(Clone, Copy)]
+// A book that was read.
+#[derive(Drop)]
 pub struct ReadBook {
-    pub answer: BookAnswer,
-    pub sessions: [BookSession; 64],
+    pub header: BookHeader,
+    pub sessions: ArrayVec<BookSession, 64>,
 }
 
 // Tests a book: 15 over the whole of it, then 16.
-pub fn test_book(book: &[u8]) -> Answer
+pub fn test_book(book: &[u8]) -> Result<(), Refusal>
     ensures { result ≡ test_answer book.now }
 {
     if damaged(book) {
-        return Answer::Refused(Refusal::BookDamaged);
+        return Err(Refusal::BookDamaged);
     }
     if !header_ok(book) {
-        return Answer::Refused(Refusal::BookAgainstRules);
+        return Err(Refusal::BookAgainstRules);
     }
     let n = u16_at(book, 4);
     if sessions_ok(book, n) & rests_ok(book, n) {
-        return Answer::Fine;
+        return Ok(());
     }
-    Answer::Refused(Refusal::BookAgainstRules)
+    Err(Refusal::BookAgainstRules)
 }
 
 // The header of a book that passed the test.
@@ -64,30 +59,16 @@ pub fn header_of(book: &[u8]) -> BookHeader
 }
 
 // Reads a book back. It is refused, or its sessions come back bit for bit.
-pub fn read_book(book: &[u8]) -> ReadBook
+pub fn read_book(book: &[u8]) -> Result<ReadBook, Refusal>
     ensures answer { reading result ≡ read_book book.now }
-    ensures beside { Beside result.answer result.sessions }
+    ensures beside { Beside result }
     ensures writer { OfWriter book.now (reading result) }
     ensures comes_back { ComesBack book.now (reading result) }
     ensures unique { Unique book.now }
     ensures runs { OfRuns book.now (reading result) }
 {
-    let answer = test_book(book);
-    match answer {
-        Answer::Refused(refusal) => {
-            let none = no_session();
-            ReadBook {
-                answer: BookAnswer::Refused(refusal),
-                sessions: [none; 64],
-            }
-        }
-        Answer::Fine => {
-            let header = header_of(book);
-            let sessions = read_sessions(book, header.count);
-            ReadBook {
-                answer: BookAnswer::Read(header),
-                sessions: sessions,
-            }
-        }
-    }
+    test_book(book)?;
+    let header = header_of(book);
+    let sessions = read_sessions(book, header.count);
+    Ok(ReadBook { header, sessions })
 }

@@ -1,14 +1,14 @@
 // The sessions of a book, read and tested.
-ghost use Rattle.std.specs.Prelude.{◌≡◌, ◌+◌, ◌/◌, ◌≤◌, ◌<◌, length, get_or, take};
+ghost use Rattle.std.specs.Prelude.{◌≡◌, ◌+◌, ◌/◌, ◌≤◌, ◌<◌, length, get_or, drop};
 ghost use Rattle.plan.specs.Search.{every};
 ghost use Rattle.files.specs.SessionBlocks.{session_of};
 ghost use Rattle.files.specs.BookSession.{no_session};
 ghost use Rattle.files.specs.Book.{book_offset, sessions_in};
-ghost use Rattle.files.specs.Code.Writing.{EmptyFrom};
 ghost use Rattle.book_reader.specs.Reader.{session_ok, rest_ok};
 ghost use Rattle.book_reader.specs.Code.Read.{Room};
 
 use crate::fields::{rest_ok, session_ok};
+use arrayvec::ArrayVec;
 use files::book_session::{BookSession, no_session};
 use plan::bytes::{u8_at, u16_at, u32_at, u64_at};
 
@@ -45,6 +45,15 @@ fn offset_of(k: usize) -> usize
     512 + 512 * (k / 5) + 96 * (k % 5)
 }
 
+// The session at the index k, one of the n of a book.
+fn session_in(book: &[u8], n: usize, k: usize) -> BookSession
+    requires { Room book.now n × (k < n) }
+    ensures { result ≡ session_of (drop (book_offset k) book.now) }
+{
+    let at = offset_of(k);
+    read_session(&book[at..])
+}
+
 // The session at the index k of a book of n sessions; past the last there is none.
 pub fn session_at(book: &[u8], n: usize, k: usize) -> BookSession
     requires { Room book.now n }
@@ -53,8 +62,7 @@ pub fn session_at(book: &[u8], n: usize, k: usize) -> BookSession
     if n <= k {
         return no_session();
     }
-    let at = offset_of(k);
-    read_session(&book[at..])
+    session_in(book, n, k)
 }
 
 // Each of the n sessions follows the rules.
@@ -62,14 +70,10 @@ pub fn sessions_ok(book: &[u8], n: usize) -> bool
     requires { Room book.now n }
     ensures { result ≡ every (session_ok book.now) 0 n }
 {
-    let mut k = 0;
-    while k < n {
-        let at = offset_of(k);
-        let x = read_session(&book[at..]);
-        if !session_ok(x) {
+    for k in 0..n {
+        if !session_ok(session_in(book, n, k)) {
             return false;
         }
-        k += 1;
     }
     true
 }
@@ -80,28 +84,22 @@ pub fn rests_ok(book: &[u8], n: usize) -> bool
     ensures { result ≡ every (rest_ok book.now) 0 ((n + 4) / 5) }
 {
     let blocks = (n + 4) / 5;
-    let mut j = 0;
-    while j < blocks {
+    for j in 0..blocks {
         if !rest_ok(book, n, j) {
             return false;
         }
-        j += 1;
     }
     true
 }
 
-// Reads the n sessions of a book; past them there is none.
-pub fn read_sessions(book: &[u8], n: usize) -> [BookSession; 64]
+// Reads the n sessions of a book.
+pub fn read_sessions(book: &[u8], n: usize) -> ArrayVec<BookSession, 64>
     requires { Room book.now n }
-    ensures all { take n result ≡ sessions_in book.now }
-    ensures past { EmptyFrom n result }
+    ensures { result.items ≡ sessions_in book.now }
 {
-    let none = no_session();
-    let mut all = [none; 64];
-    let mut k = 0;
-    while k < n {
-        all[k] = session_at(book, n, k);
-        k += 1;
+    let mut all = ArrayVec::new();
+    for k in 0..n {
+        all.push(session_in(book, n, k));
     }
     all
 }

@@ -5,50 +5,37 @@
 
 use book_reader::numbers::read_numbers;
 use reading::read_full;
-use recorded::{answer_bytes, at_most, change, mixed, u16_at};
+use recorded::{Record, answer_bytes, digest};
 use std::io;
 
-fn digest(s: &[u64]) -> u64 {
-    let mut sum: u64 = 0;
-    let mut i: usize = 0;
-    while i < s.len() {
-        sum = mixed(sum, s[i]);
-        i += 1;
+// What a call is lent.
+#[derive(Drop)]
+struct Buffers {
+    book: [u8; 7680],
+    header: [u64; 4],
+    sessions: [u64; 1024],
+}
+
+impl Buffers {
+    // Makes the call that comes next in the record, and writes its answer.
+    fn replay_call(&mut self, rt: &impl Print, record: &mut Record) -> io::Result<()> {
+        let n = (record.u32() as usize).min(self.book.len());
+        record.change(&mut self.book);
+        let numbers = read_numbers(&self.book[..n], &mut self.header, &mut self.sessions);
+        rt.write_all(&answer_bytes(numbers, digest(&self.header), digest(&self.sessions)))
     }
-    sum
-}
-
-fn write_answer(rt: &impl Print, numbers: [u64; 11], header: u64, sessions: u64) -> io::Result<()> {
-    rt.write_all(&answer_bytes(numbers, header, sessions))
-}
-
-// Makes the call that the record has at `at`, writes its answer, and gives the place behind it.
-fn replay_call(
-    rt: &impl Print,
-    recorded: &[u8],
-    at: usize,
-    book: &mut [u8],
-    header: &mut [u64; 4],
-    sessions: &mut [u64; 1024],
-) -> io::Result<usize> {
-    let next = change(book, recorded, at.wrapping_add(4));
-    let n = at_most(u16_at(recorded, at), book.len());
-    let numbers = read_numbers(&book[..n], header, sessions);
-    write_answer(rt, numbers, digest(header), digest(sessions))?;
-    Ok(next)
 }
 
 // The numbers that a refused call leaves alone are sevens at first.
-fn replay(rt: &impl Print, recorded: &[u8]) -> io::Result<()> {
-    let mut book = [0u8; 7680];
-    let mut header = [7u64; 4];
-    let mut sessions = [7u64; 1024];
-    let calls = u16_at(recorded, 0);
-    let mut at: usize = 4;
-    let mut k: usize = 0;
-    while k < calls {
-        at = replay_call(rt, recorded, at, &mut book, &mut header, &mut sessions)?;
-        k += 1;
+fn replay(rt: &impl Print, record: &mut Record) -> io::Result<()> {
+    let mut buffers = Buffers {
+        book: [0; 7680],
+        header: [7; 4],
+        sessions: [7; 1024],
+    };
+    let calls = record.u32();
+    for _ in 0..calls {
+        buffers.replay_call(rt, record)?;
     }
     Ok(())
 }
@@ -56,5 +43,5 @@ fn replay(rt: &impl Print, recorded: &[u8]) -> io::Result<()> {
 fn main(rt: HostRuntime) -> io::Result<()> {
     let mut record = [0u8; 65536];
     let n = read_full(&mut rt.stdin(), &mut record)?;
-    replay(&rt, &record[..n])
+    replay(&rt, &mut Record { rest: &record[..n] })
 }

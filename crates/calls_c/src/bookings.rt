@@ -4,6 +4,9 @@ ghost use Rattle.plan.specs.Answer.{check_numbers};
 ghost use Rattle.late_booking.specs.Call.{late_answer, new_dump_left};
 ghost use Rattle.late_booking.specs.Stands.{RunStands, InOrder, OneMoreToArrive, WholeDump, HeaderStands, SessionsStand, EventsJoined, PlannedInFull};
 
+use late_booking::late::book_late;
+use plan::answer::check_numbers;
+
 // Books a car into a plan whose run by events was dumped; its numbers go to `numbers`, the new dump to `new`.
 #[unsafe(no_mangle)]
 pub extern "C" fn site_book_late(
@@ -24,5 +27,5 @@ pub extern "C" fn site_book_late(
     ensures events { EventsJoined plan.now dump.now car.now new.new (late_answer plan.now dump.now car.now (length new.old)) }
     ensures full { PlannedInFull plan.now dump.now car.now new.new (late_answer plan.now dump.now car.now (length new.old)) }
 {
-    calls::bookings::site_book_late(plan, dump, car, new, numbers);
+    *numbers = check_numbers(book_late(plan, dump, car, new));
 }

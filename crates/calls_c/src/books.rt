@@ -3,6 +3,8 @@ ghost use Rattle.std.specs.Prelude.{◌≡◌};
 ghost use Rattle.book_reader.specs.Reader.{read_book, reading_numbers, header_after, sessions_after};
 ghost use Rattle.book_reader.specs.Accepted.{OfWriter, ComesBack, Unique, OfRuns};
 
+use book_reader::numbers::read_numbers;
+
 // Reads a book; its numbers go to `numbers`, its header to `header`, and sixteen numbers of each session to `sessions`.
 #[unsafe(no_mangle)]
 pub extern "C" fn site_read_book(
@@ -19,5 +21,5 @@ pub extern "C" fn site_read_book(
     ensures unique { Unique book.now }
     ensures runs { OfRuns book.now (read_book book.now) }
 {
-    calls::books::site_read_book(book, header, sessions, numbers);
+    *numbers = read_numbers(book, header, sessions);
 }

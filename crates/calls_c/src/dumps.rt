@@ -7,6 +7,10 @@ ghost use Rattle.files.specs.Fleets.{FleetsWithin, FleetsCarried, AsBefore};
 ghost use Rattle.dump.specs.Call.{dump_answer, dump_book, dump_left, continued_to, continued_answer, continued_book};
 ghost use Rattle.dump.specs.Continued.{Unbroken, FitsBuffer, Determines, BlocksPass, Continues, SessionsOfBook, Reached, InParts, EndedStays, MoreStays};
 
+use dump::call;
+use dump::resume::resume;
+use plan::answer::run_numbers;
+
 // Runs a plan by events; its numbers go to `numbers`, its book to `book`, its dump to `dump`.
 #[unsafe(no_mangle)]
 pub extern "C" fn site_dump(
@@ -44,7 +48,7 @@ pub extern "C" fn site_dump(
     ensures carried { FleetsCarried plan.now book.new (dump_answer plan.now engine allowance (length book.old) (length dump.old)) }
     ensures no_fleets { AsBefore plan.now (dump_answer plan.now engine allowance (length book.old) (length dump.old)) }
 {
-    calls::dumps::site_dump(plan, engine, allowance, book, dump, numbers);
+    *numbers = run_numbers(call::dump(plan, engine, allowance, book, dump));
 }
 
 // Continues a run from a dump; its numbers go to `numbers`, its book to `book`.
@@ -81,5 +85,5 @@ pub extern "C" fn site_continue(
     ensures carried { FleetsCarried plan.now book.new (continued_answer plan.now dump.now further (length book.old)) }
     ensures no_fleets { AsBefore plan.now (continued_answer plan.now dump.now further (length book.old)) }
 {
-    calls::dumps::site_continue(plan, dump, further, book, numbers);
+    *numbers = run_numbers(resume(plan, dump, further, book));
 }

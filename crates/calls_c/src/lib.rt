@@ -1,4 +1,4 @@
-// The calls of the crate calls, exported for C. A slice is a pointer and a length; the eleven numbers go to an array of the caller's.
+// The calls, exported for C and Rust. A slice is a pointer and a length; the eleven numbers go to an array of the caller's.
 #![tactic(auto)]
 
 mod bookings;
@@ -13,6 +13,9 @@ ghost use Rattle.files.specs.Demand.{ReadsBack, UnitsUsed, FreeKnown, NoFreeFits
 ghost use Rattle.files.specs.HotDay.{HotDayOfPlan, HotDayOfRun, BookByRating};
 ghost use Rattle.files.specs.Fleets.{FleetsWithin, FleetsCarried, AsBefore};
 
+use files::call::{check, run};
+use plan::answer::{check_numbers, run_numbers};
+
 // Checks a plan; its numbers go to `numbers`.
 #[unsafe(no_mangle)]
 pub extern "C" fn site_check(plan: &[u8], numbers: &mut [u64; 11])
@@ -20,7 +23,7 @@ pub extern "C" fn site_check(plan: &[u8], numbers: &mut [u64; 11])
     ensures blocks { AllSealed plan.now (check_plan plan.now) }
     ensures hot_day { HotDayOfPlan plan.now (check_plan plan.now) }
 {
-    calls::site_check(plan, numbers);
+    *numbers = check_numbers(check(plan));
 }
 
 // Runs a plan; its numbers go to `numbers`, its book to `book`.
@@ -53,5 +56,5 @@ pub extern "C" fn site_run(
     ensures carried { FleetsCarried plan.now book.new (answer_of plan.now engine allowance (length book.old)) }
     ensures no_fleets { AsBefore plan.now (answer_of plan.now engine allowance (length book.old)) }
 {
-    calls::site_run(plan, engine, allowance, book, numbers);
+    *numbers = run_numbers(run(plan, engine, allowance, book));
 }

@@ -45,14 +45,14 @@ use Rattle.late_booking.specs.LongerPlan.{raised, longer}
 use Rattle.late_booking.specs.LateCar.{arrival_in, is_later}
 use Rattle.late_booking.specs.Call.{booking_answer, late_answer}
 use Rattle.book_reader.specs.Reader.{damaged, session_ok, rest_ok, against_rules, test_answer, read_book, session_numbers}
-use Rattle.plan.specs.declared.answer.Answer.{Answer}
-use Rattle.plan.specs.declared.answer.Answer.TheVariants.{Fine, Refused}
 use Rattle.plan.specs.declared.answer.Refusal.TheVariants.{Broken, CannotCharge, NotLater}
 use Rattle.plan.specs.declared.answer.Rule.TheVariants.{Field}
 use Rattle.engine.specs.declared.session.Session.{Session}
 use Rattle.engine.specs.declared.session.Outcome.TheVariants.{Charged}
 use Rattle.cases.specs.Bay.{kwh, Bay, plan, bay, second_car, at_target, at_one_kw, nacs_capped, vans, late_car}
 use Rattle.cases.specs.Cases.{dump, refused, ended, charged, one_round, events, steps, run, book_late, Result, if_fine, back_from, if_booked, result, Worked, ◌gives◌, Holds, worked}
+use Rattle.std.specs.Prelude.{Result as Answered, Ok, Err}
+use Rattle.plan.specs.declared.answer.Refusal.{Refusal}
 
 -- ---- a plan's bytes read, checked and run; each line `unfolding` has all that it computes by
 
@@ -62,7 +62,7 @@ unfolding plan block first_index each id_at with_id point_count
     charger_at no_charger compatible cap_of actual_max_power integrate_over curve_of of_bits eq lt le ne add sub mul div
 read b = read_plan (plan b)
 
-check : Bay → Answer
+check : Bay → Answered (Unit {0}) Refusal
 unfolding read passes every bytes_in connectors_ok cap_ok point_ok new_soc kind_at first_refusal whole_blocks check_blocks failing_charger failing_pair check_plan
 check b = check_plan (plan b)
 
@@ -85,67 +85,67 @@ back b = back_from (read_book b)
 
 -- ---- each plan is checked once
 
-bay_fine : check bay ≡ Fine
+bay_fine : check bay ≡ Ok tt
 unfolding check
 bay_fine = refl
 
-m2_fine : check (second_car 1800 10) ≡ Fine
+m2_fine : check (second_car 1800 10) ≡ Ok tt
 unfolding check
 m2_fine = refl
 
-m3_fine : check (second_car 1820 10) ≡ Fine
+m3_fine : check (second_car 1820 10) ≡ Ok tt
 unfolding check
 m3_fine = refl
 
-m4_fine : check (second_car 1821 10) ≡ Fine
+m4_fine : check (second_car 1821 10) ≡ Ok tt
 unfolding check
 m4_fine = refl
 
-m5_fine : check (second_car 1800 0) ≡ Fine
+m5_fine : check (second_car 1800 0) ≡ Ok tt
 unfolding check
 m5_fine = refl
 
-m10_fine : check at_target ≡ Fine
+m10_fine : check at_target ≡ Ok tt
 unfolding check
 m10_fine = refl
 
-m12_fine : check (at_one_kw (kwh 168)) ≡ Fine
+m12_fine : check (at_one_kw (kwh 168)) ≡ Ok tt
 unfolding check
 m12_fine = refl
 
-m12_refused : check (at_one_kw (kwh 169)) ≡ Refused (CannotCharge 4 3)
+m12_refused : check (at_one_kw (kwh 169)) ≡ Err (CannotCharge 4 3)
 unfolding check
 m12_refused = refl
 
-lead_fine : check (nacs_capped (record { 0 = ratio 125 2 })) ≡ Fine
+lead_fine : check (nacs_capped (record { 0 = ratio 125 2 })) ≡ Ok tt
 unfolding check
 lead_fine = refl
 
-lead_refused : check (nacs_capped (record { 0 = ratio 1 2 })) ≡ Refused (Broken Field 3)
+lead_refused : check (nacs_capped (record { 0 = ratio 1 2 })) ≡ Err (Broken Field 3)
 unfolding check
 lead_refused = refl
 
-vans_fine : check (vans 1 1) ≡ Fine
+vans_fine : check (vans 1 1) ≡ Ok tt
 unfolding check
 vans_fine = refl
 
-fleet_refused : check (vans 65 1) ≡ Refused (Broken Field 5)
+fleet_refused : check (vans 65 1) ≡ Err (Broken Field 5)
 unfolding check
 fleet_refused = refl
 
-places_refused : check (vans 1 65) ≡ Refused (Broken Field 1)
+places_refused : check (vans 1 65) ≡ Err (Broken Field 1)
 unfolding check
 places_refused = refl
 
 -- ---- a late booking: with M2's second car M1's longer plan is M2's
 
 -- a plan's dump after n events, and a car for which all tests but the last are passed
-module _ (plan car : List ℕ) (n : ℕ) (fine : check_plan plan ≡ Fine) (one : length car ≡ 512) (room : leb 64 (vehicle_count plan) ≡ false) where
+module _ (plan car : List ℕ) (n : ℕ) (fine : check_plan plan ≡ Ok tt) (one : length car ≡ 512) (room : leb 64 (vehicle_count plan) ≡ false) where
   own_dump : is_dump plan (dump_of plan n) ≡ true
   own_dump = subst (λ (b : List ℕ). is_dump plan b ≡ true) (append-nil (dump_of plan n)) (is_own plan (plan_fine plan fine).0 n [])
 
   by_arrival : {t : Bool} → is_later (read_plan plan) (handled_in (dump_of plan n)) (arrival_in car) ≡ t
-      → late_answer plan (dump_of plan n) car 16384 ≡ cond (not t) (Refused NotLater) (check_plan (longer plan car))
+      → late_answer plan (dump_of plan n) car 16384 ≡ cond (not t) (Err NotLater) (check_plan (longer plan car))
   unfolding late_answer booking_answer
   by_arrival later = rw (eq-eqb (length car) 512 one, fine, own_dump, room, later)
 
@@ -153,23 +153,23 @@ m2_longer : longer (plan bay) (late_car 200) ≡ plan (second_car 1800 10)
 unfolding longer raised sealed check_of words le_at bytes plan
 m2_longer = refl
 
-late_fine : late_answer (plan bay) (dump_of (plan bay) 1) (late_car 200) 16384 ≡ Fine
+late_fine : late_answer (plan bay) (dump_of (plan bay) 1) (late_car 200) 16384 ≡ Ok tt
 unfolding check dumped
 late_fine = by_arrival (plan bay) (late_car 200) 1 bay_fine refl refl {t = true} refl ∙ ap check_plan m2_longer ∙ m2_fine
 
-late_refused : late_answer (plan bay) (dump_of (plan bay) 1) (late_car 100) 16384 ≡ Refused NotLater
+late_refused : late_answer (plan bay) (dump_of (plan bay) 1) (late_car 100) 16384 ≡ Err NotLater
 unfolding check dumped
 late_refused = by_arrival (plan bay) (late_car 100) 1 bay_fine refl refl {t = false} refl
 
 -- ---- the theorem
 
 -- a run of a plan, by what its check answers
-by : (engine n : ℕ) (b : Bay) {a : Answer} {r : Result} → check b ≡ a → if_fine a (stop engine n b) ≡ r → Holds (run engine n (plan b) gives r)
+by : (engine n : ℕ) (b : Bay) {a : Answered (Unit {0}) Refusal} {r : Result} → check b ≡ a → if_fine a (stop engine n b) ≡ r → Holds (run engine n (plan b) gives r)
 unfolding result check stop
 by engine n b answer given = ap (λ a. if_fine a (stop engine n b)) answer ∙ given
 
 -- a booking, by its answer and the longer plan
-by_booking : (n : ℕ) (b : Bay) (car long : List ℕ) {a : Answer} {r : Result} → late_answer (plan b) (dump_of (plan b) n) car 16384 ≡ a → longer (plan b) car ≡ long
+by_booking : (n : ℕ) (b : Bay) (car long : List ℕ) {a : Answered (Unit {0}) Refusal} {r : Result} → late_answer (plan b) (dump_of (plan b) n) car 16384 ≡ a → longer (plan b) car ≡ long
     → if_booked a (dump_of long n) ≡ r → Holds (book_late n (plan b) car gives r)
 unfolding result
 by_booking n b car long {a} answer same given =
@@ -239,7 +239,7 @@ m10_session =
       energy = record { 0 = fin false 2001599834386887 (negsuc 56) };
     }
 
-m10_run : if_fine Fine (stop steps 10 at_target) ≡ ended 3 (m10_session ∷ [])
+m10_run : if_fine (Ok tt) (stop steps 10 at_target) ≡ ended 3 (m10_session ∷ [])
 unfolding stop
 m10_run = refl
 

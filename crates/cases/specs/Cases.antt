@@ -1,5 +1,5 @@
 -- Rules. M1 to M12 of the paper's bay, and requests 8, 1, 5, 7 and 9 at it, worked through: one list of cases, each with what it gives.
-use Rattle.std.specs.Prelude.{ℕ, ◌+◌, ◌-◌, ◌*◌, ◌≡◌, Bool, true, false, List, [], ◌∷◌, map, Float, set}
+use Rattle.std.specs.Prelude.{ℕ, ◌+◌, ◌-◌, ◌*◌, ◌≡◌, Bool, true, false, List, [], ◌∷◌, map, Float, set, Result as Answered, Ok, Err}
 use Rattle.curve.specs.F64.{◌⊗◌, ratio}
 use Rattle.curve.specs.Curve.{integrate_over, curve_of}
 use Rattle.curve.specs.declared.points.Point.{Point}
@@ -28,8 +28,6 @@ use Rattle.files.specs.declared.book_session.BookSession.{BookSession}
 use Rattle.plan.specs.declared.answer.Rule.TheVariants.{Field}
 use Rattle.plan.specs.declared.answer.Refusal.{Refusal}
 use Rattle.plan.specs.declared.answer.Refusal.TheVariants.{Broken, CannotCharge, BookDamaged, BookAgainstRules, NotLater}
-use Rattle.plan.specs.declared.answer.Answer.{Answer}
-use Rattle.plan.specs.declared.answer.Answer.TheVariants.{Fine, Refused}
 use Rattle.dump.specs.Dump.{dump_of, handled_in}
 use Rattle.late_booking.specs.LongerPlan.{longer}
 use Rattle.late_booking.specs.Call.{late_answer}
@@ -74,9 +72,9 @@ pub data Result : Type 0 where
   -- a book's engine, ended and used, and the sixteen numbers of each session
   holds : ℕ → ℕ → ℕ → List (List ℕ) → Result
 
-abbrev pub if_fine : Answer → Stop → Result
-if_fine Fine s = stopped s.used s.ended s.sessions
-if_fine (Refused x) s = refused x
+abbrev pub if_fine : Answered (Unit {0}) Refusal → Stop → Result
+if_fine (Ok u) s = stopped s.used s.ended s.sessions
+if_fine (Err x) s = refused x
 
 -- m 16-bit numbers of a dump, from a place on
 abbrev pub words_at : List ℕ → ℕ → ℕ → List ℕ
@@ -94,9 +92,9 @@ back_from (R.refused x) = refused x
 back_from (contents c) = holds c.engine c.ended c.used (map session_numbers c.sessions)
 
 -- the new dump of a car that was booked
-abbrev pub if_booked : Answer → List ℕ → Result
-if_booked Fine new = shown new
-if_booked (Refused x) new = refused x
+abbrev pub if_booked : Answered (Unit {0}) Refusal → List ℕ → Result
+if_booked (Ok u) new = shown new
+if_booked (Err x) new = refused x
 
 unfoldable pub result : Case → Result
 result (run engine allowance plan) = if_fine (check_plan plan) (stop_of (read_plan plan) engine allowance)

@@ -1,5 +1,5 @@
 -- Laws of tests, of `count` and `All`, and what a search by `first` says of the list.
-use mathlib.Core.Path.{◌≡◌, refl, sym, ap}
+use mathlib.Core.Path.{◌≡◌, refl, sym, ap, ◌∙◌}
 use mathlib.Core.Bool.{Bool, true, false, cond, ◌&&◌, false≢true}
 use mathlib.Core.List.{List, [], ◌∷◌, ◌++◌, map}
 use Prim.Native.Nat.{ℕ, zero, suc, ◌+◌, ◌≤◌, ◌<◌}
@@ -8,6 +8,8 @@ use native.Mathlib.Omega.{arith}
 use borrow.Author.Tests.{ltb-true, ltb-false, eq-eqb, ne_eqb, eqb-true, eqb-false}
 use lib.Dec.{ltb, eqb}
 use lib.ListN.{length, get_or}
+use Rattle.std.specs.Prelude.{count_by}
+use Rattle.std.proofs.lemmas.List.Sums.{sum_by-cons}
 use Rattle.charger.specs.First.{Found, nobody, found, behind, found_or, first}
 use Rattle.charger.specs.Lists.{tick, count, All, none, also}
 
@@ -43,6 +45,15 @@ tick_le false = omega arith
 pub count_map : {A B : Type 0} (f : A → B) (test : B → Bool) (l : List A) → count test (map f l) ≡ count (λ (x : A). test (f x)) l
 count_map f test [] = refl
 count_map f test (x ∷ l) = rw (count_map f test l)
+
+-- the library's count of those that pass is the same
+pub count_by_is : {A : Type 0} (test : A → Bool) (l : List A) → count_by test l ≡ count test l
+count_by_is test [] = refl
+count_by_is test (x ∷ l) = sum_by-cons (λ y. cond (test y) 1 0) x l ∙ rw (count_by_is test l) (one (test x))
+  where
+    one : (b : Bool) → cond b 1 0 + count test l ≡ tick b + count test l
+    one true = refl
+    one false = refl
 
 module _ {A : Type 0} where
   pub count-append : (test : A → Bool) (s t : List A) → count test (s ++ t) ≡ count test s + count test t

@@ -1,14 +1,11 @@
 -- Rules. The connector that a charger and a vehicle resolve to, and the power that it can give.
-use Rattle.std.specs.Prelude.{Bool, cond, List, ℕ, ◌-◌, leb, get_or, replicate}
+use Rattle.std.specs.Prelude.{Bool, cond, List, Option, Some, None, ℕ, ◌-◌, leb, get_or, replicate}
 use Rattle.std.specs.Float.Ieee.{eq}
 use Rattle.curve.specs.F64.{◌⊗◌, ◌⊘◌, ratio, least}
 use Rattle.curve.specs.declared.units.Kw.{Kw}
 use Rattle.curve.specs.declared.units.Amperes.{Amperes}
 use Rattle.charger.specs.declared.charger.Charger.{Charger}
-use Rattle.charger.specs.declared.charger.Resolved.{Resolved}
-use Rattle.charger.specs.declared.charger.Resolved.TheVariants.{Connector, Nothing}
-use Rattle.charger.specs.declared.connector.Common.{Common}
-use Rattle.charger.specs.declared.connector.Common.TheVariants.{Connector as InCommon, Nothing as NothingInCommon}
+use Rattle.charger.specs.declared.charger.Lead.{Lead}
 use Rattle.charger.specs.declared.vehicle.Vehicle.{Vehicle}
 use Rattle.charger.specs.Vehicle.{connector_of}
 
@@ -39,11 +36,11 @@ abbrev pub current_of : Charger → ℕ → Amperes
 current_of charger code = capped (cap_of charger code) charger.current
 
 -- the connector that they have in common, with its current
-abbrev pub with_current : Charger → Common → Resolved
-with_current charger (InCommon code) = Connector (record { code = code; current = current_of charger code })
-with_current charger NothingInCommon = Nothing
+abbrev pub with_current : Charger → Option ℕ → Option Lead
+with_current charger (Some code) = Some (record { code = code; current = current_of charger code })
+with_current charger None = None
 
-abbrev pub resolve : Charger → List Bool → Vehicle → Resolved
+abbrev pub resolve : Charger → List Bool → Vehicle → Option Lead
 resolve charger row vehicle = with_current charger (connector_of row vehicle)
 
 -- the smaller of current times voltage, in kW, and the largest power
@@ -52,9 +49,9 @@ unfolding ratio
 actual_max_power charger current = record { 0 = least (current.0 ⊗ charger.voltage.0 ⊘ ratio 1000 1) charger.max_power.0 }
 
 -- by the connector resolved; no power where there is none
-abbrev pub power_by : Charger → Resolved → Kw
-power_by charger (Connector lead) = actual_max_power charger lead.current
-power_by charger Nothing = record { 0 = ratio 0 1 }
+abbrev pub power_by : Charger → Option Lead → Kw
+power_by charger (Some lead) = actual_max_power charger lead.current
+power_by charger None = record { 0 = ratio 0 1 }
 
 abbrev pub rated_power : Charger → List Bool → Vehicle → Kw
 rated_power charger row vehicle = power_by charger (resolve charger row vehicle)

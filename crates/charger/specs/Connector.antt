@@ -1,20 +1,18 @@
 -- Rules. Connectors by their codes: 1 Ccs1, 2 Ccs2, 3 Chademo, 4 Gbt, 5 Nacs. A charger's row says for each code, 1 to 5, whether it has that connector.
-use Rattle.std.specs.Prelude.{Bool, true, false, cond, ◌&&◌, ◌||◌, List, [], ◌∷◌, ℕ, zero, suc, ◌-◌, leb, eqb, get_or, take}
+use Rattle.std.specs.Prelude.{Bool, false, ◌&&◌, List, [], ◌∷◌, Option, ℕ, zero, suc, ◌-◌, leb, eqb, get_or, take}
+use Rattle.std.specs.List.{find, list_any}
+use Rattle.std.specs.Option.{is_some}
 use Rattle.charger.specs.declared.connector.Connectors.{Connectors}
-use Rattle.charger.specs.declared.connector.Common.{Common}
-use Rattle.charger.specs.declared.connector.Common.TheVariants.{Connector, Nothing}
 
 abbrev pub has_code : List Bool → ℕ → Bool
 has_code row k = leb 1 k && get_or row (k - 1) false
 
 -- the first of the vehicle's codes that the charger has
-abbrev pub common : List Bool → List ℕ → Common
-common row [] = Nothing
-common row (k ∷ ks) = cond (has_code row k) (Connector k) (common row ks)
+abbrev pub common : List Bool → List ℕ → Option ℕ
+common row ks = find (has_code row) ks
 
-abbrev pub is_connector : Common → Bool
-is_connector (Connector k) = true
-is_connector Nothing = false
+abbrev pub is_connector : Option ℕ → Bool
+is_connector k = is_some k
 
 -- ---- the connectors that a block names, by their count and their codes
 
@@ -29,8 +27,7 @@ named_connectors zero codes = record { codes = 5 ∷ 0 ∷ 0 ∷ 0 ∷ 0 ∷ [];
 named_connectors (suc n) codes = record { codes = codes; count = suc n }
 
 abbrev pub contains : List ℕ → ℕ → Bool
-contains [] k = false
-contains (j ∷ js) k = eqb j k || contains js k
+contains ks k = list_any (λ j. eqb j k) ks
 
 -- the row of a charger with these codes
 abbrev pub row_of : List ℕ → List Bool

@@ -1,12 +1,11 @@
 -- Rules. Which vehicles fit a charger.
-use Rattle.std.specs.Prelude.{Bool, List, ℕ, get_or, take, replicate}
+use Rattle.std.specs.Prelude.{Bool, List, Option, ℕ, get_or, take, replicate}
 use Rattle.curve.specs.F64.{ratio}
-use Rattle.charger.specs.declared.connector.Common.{Common}
 use Rattle.charger.specs.declared.vehicle.Vehicle.{Vehicle}
 use Rattle.charger.specs.Connector.{common, is_connector}
 
 -- the connector that a charger and a vehicle use: the first of the vehicle's that the charger has
-abbrev pub connector_of : List Bool → Vehicle → Common
+abbrev pub connector_of : List Bool → Vehicle → Option ℕ
 connector_of row v = common row (take v.count v.codes)
 
 -- a pair fits if it has a connector in common

@@ -1,24 +1,17 @@
-// The curves of the plan's profiles (charge_profile_list.rs), in one table: 32 rows a profile, of which the first lens[k] are the curve of profile k.
+// The curves of the plan's profiles (charge_profile_list.rs), in one table: 32 points a profile, of which the first lens[k] are the curve of profile k.
 ghost use Rattle.std.specs.Prelude.{◌≡◌};
 ghost use Rattle.std.specs.Float.Ieee.{le};
-ghost use Rattle.curve.specs.Code.Rows.{points, place};
+ghost use Rattle.curve.specs.Code.Places.{place};
 ghost use Rattle.curve.specs.Code.Rising.{Rises};
 ghost use Rattle.curve.specs.Curve.{reached};
 ghost use Rattle.charger.specs.Code.Profiles.{curve_at};
 
 use curve::charge_profile::{Place, place_near};
-use curve::points::reached_by_points;
-
-// A byte as a place or a length.
-pub fn place_of(b: u8) -> usize
-    ensures { result ≡ b }
-{
-    b as usize
-}
+use curve::points::{Point, reached};
 
 // A profile's curve; past the last profile the empty one.
-pub fn profile_curve<'a>(curves: &'a [[f64; 2]], lens: &[u8], profile: usize) -> &'a [[f64; 2]]
-    ensures { points result.now ≡ curve_at curves.now lens.now profile }
+pub fn profile_curve<'a>(curves: &'a [Point], lens: &[u8], profile: usize) -> &'a [Point]
+    ensures { result.now ≡ curve_at curves.now lens.now profile }
 {
     if lens.len() <= profile {
         return &curves[..0];
@@ -27,7 +20,7 @@ pub fn profile_curve<'a>(curves: &'a [[f64; 2]], lens: &[u8], profile: usize) ->
         return &curves[..0];
     }
     let start = 32 * profile;
-    let end = start + place_of(lens[profile]);
+    let end = start + usize::from(lens[profile]);
     if curves.len() < end {
         return &curves[..0];
     }
@@ -35,16 +28,16 @@ pub fn profile_curve<'a>(curves: &'a [[f64; 2]], lens: &[u8], profile: usize) ->
 }
 
 // Where `soc` lies on the curve of a profile, which rises: its segment, found at once if it is near the one given, and the power.
-pub fn place_on_curve(curves: &[[f64; 2]], lens: &[u8], profile: u8, near: usize, soc: f64) -> Place
+pub fn place_on_curve(curves: &[Point], lens: &[u8], profile: u8, near: usize, soc: f64) -> Place
     requires { Rises le (curve_at curves.now lens.now profile) }
     ensures { result ≡ place (curve_at curves.now lens.now profile) soc }
 {
-    place_near(profile_curve(curves, lens, place_of(profile)), near, soc)
+    place_near(profile_curve(curves, lens, usize::from(profile)), near, soc)
 }
 
-// How many points of the curve of a profile are at or below `soc`: a first search, over the curve as points.
-pub fn reached_on_curve(curves: &[[f64; 2]], lens: &[u8], profile: u8, soc: f64) -> usize
+// How many points of the curve of a profile are at or below `soc`: a first search, point by point.
+pub fn reached_on_curve(curves: &[Point], lens: &[u8], profile: u8, soc: f64) -> usize
     ensures { result ≡ reached soc (curve_at curves.now lens.now profile) }
 {
-    reached_by_points(profile_curve(curves, lens, place_of(profile)), soc)
+    reached(profile_curve(curves, lens, usize::from(profile)), soc)
 }

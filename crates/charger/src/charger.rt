@@ -4,12 +4,11 @@ ghost use Rattle.curve.specs.F64.{least};
 ghost use Rattle.charger.specs.Charger.{no_charger, cap_of, current_of, resolve, actual_max_power, rated_power};
 ghost use Rattle.charger.specs.Leads.{CapsLower};
 
-use crate::connector::Common;
 use crate::vehicle::{Vehicle, connector_of};
 use curve::float::min;
 use curve::units::{Amperes, Kw, Volts};
 
-// `caps` has for each connector code, from 1, the most that its lead carries; 0 A means no cap.
+// `caps` has for each connector code, from 1, the most that its lead carries; 0 A means no cap, as zero bytes in a plan do.
 #[derive(Clone, Copy)]
 pub struct Charger {
     pub max_power: Kw,
@@ -25,13 +24,7 @@ pub struct Lead {
     pub current: Amperes,
 }
 
-#[derive(Clone, Copy)]
-pub enum Resolved {
-    Connector(Lead),
-    Nothing,
-}
-
-// One with no power.
+// One with no power. What a derived `Default` promises, field by field, does not prove the equation.
 pub fn no_charger() -> Charger
     ensures { result ≡ no_charger }
 {
@@ -43,19 +36,20 @@ pub fn no_charger() -> Charger
     }
 }
 
+impl Default for Charger {
+    fn default() -> Self {
+        no_charger()
+    }
+}
+
 // The cap of the lead with a code, 0 A where it has none.
 fn cap_of(charger: Charger, code: u8) -> Amperes
     ensures { result ≡ cap_of charger code }
 {
-    let caps = charger.caps;
-    let k = code as usize;
-    if k < 1 {
-        return Amperes(0.0);
+    match code {
+        1..=5 => charger.caps[usize::from(code - 1)],
+        _ => Amperes(0.0),
     }
-    if 5 < k {
-        return Amperes(0.0);
-    }
-    caps[k - 1]
 }
 
 fn smaller(a: Amperes, b: Amperes) -> Amperes
@@ -76,16 +70,13 @@ fn current_of(charger: Charger, code: u8) -> Amperes
 }
 
 // The connector that the pair uses, with its current.
-fn resolve_connector(charger: Charger, row: [bool; 5], vehicle: Vehicle) -> Resolved
+fn resolve_connector(charger: Charger, row: [bool; 5], vehicle: Vehicle) -> Option<Lead>
     ensures { result ≡ resolve charger row vehicle }
 {
-    match connector_of(row, vehicle) {
-        Common::Connector(code) => Resolved::Connector(Lead {
-            code: code,
-            current: current_of(charger, code),
-        }),
-        Common::Nothing => Resolved::Nothing,
-    }
+    connector_of(row, vehicle).map(|code| Lead {
+        code,
+        current: current_of(charger, code),
+    })
 }
 
 // The most power that the charger can deliver by a current.
@@ -101,7 +92,7 @@ pub fn rated_power(charger: Charger, row: [bool; 5], vehicle: Vehicle) -> Kw
     ensures caps { CapsLower charger row vehicle result }
 {
     match resolve_connector(charger, row, vehicle) {
-        Resolved::Connector(lead) => actual_max_power_kw(charger, lead.current),
-        Resolved::Nothing => Kw(0.0),
+        Some(lead) => actual_max_power_kw(charger, lead.current),
+        None => Kw(0.0),
     }
 }

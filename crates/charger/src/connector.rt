@@ -2,45 +2,25 @@
 ghost use Rattle.std.specs.Prelude.{◌≡◌, take};
 ghost use Rattle.charger.specs.Connector.{has_code, common, contains, row_of, codes_of, named_connectors};
 
-// The first of the vehicle's codes that the charger has.
-#[derive(Clone, Copy)]
-pub enum Common {
-    Connector(u8),
-    Nothing,
-}
-
 // A charger's row says for each code whether the charger has that connector.
 fn has(row: [bool; 5], code: u8) -> bool
     ensures { result ≡ has_code row code }
 {
-    let k = code as usize;
-    if k < 1 {
-        return false;
+    match code {
+        1..=5 => row[usize::from(code - 1)],
+        _ => false,
     }
-    if 5 < k {
-        return false;
-    }
-    row[k - 1]
 }
 
-pub fn common_connector(row: [bool; 5], codes: [u8; 5], count: usize) -> Common
+// The first of the vehicle's codes that the charger has.
+pub fn common_connector(row: [bool; 5], codes: [u8; 5], count: usize) -> Option<u8>
     ensures { result ≡ common row (take count codes) }
 {
-    let mut i = 0;
-    while i < 5 {
-        if count <= i {
-            return Common::Nothing;
-        }
-        let code = codes[i];
-        if has(row, code) {
-            return Common::Connector(code);
-        }
-        i += 1;
-    }
-    Common::Nothing
+    codes.iter().take(count).copied().find(|k| has(row, *k))
 }
 
-// A vehicle's connectors, in its order of preference: the first `count` codes.
+// A vehicle's connectors, in its order of preference: the first `count` codes. The library's vector of fixed capacity is not `Copy`, as a
+// vehicle is.
 #[derive(Clone, Copy)]
 pub struct Connectors {
     pub codes: [u8; 5],
@@ -60,21 +40,13 @@ pub fn connectors_of(codes: [u8; 5], count: usize) -> Connectors
     Connectors { codes, count }
 }
 
-// Whether a code is among the first `count`.
-fn names(codes: [u8; 5], count: usize, code: u8) -> bool
-    ensures { result ≡ contains (take count codes) code }
-{
-    let mut i = 0;
-    while i < 5 {
-        if count <= i {
-            return false;
-        }
-        if codes[i] == code {
-            return true;
-        }
-        i += 1;
+impl Connectors {
+    // Whether a code is among them.
+    fn names(self, code: u8) -> bool
+        ensures { result ≡ contains (take self.count self.codes) code }
+    {
+        self.codes.iter().take(self.count).any(|k| *k == code)
     }
-    false
 }
 
 // A charger's row from the codes of its block.
@@ -82,13 +54,5 @@ pub fn connector_row(codes: [u8; 5], count: usize) -> [bool; 5]
     ensures { result ≡ row_of (codes_of count codes) }
 {
     let all = connectors_of(codes, count);
-    let list = all.codes;
-    let n = all.count;
-    [
-        names(list, n, 1),
-        names(list, n, 2),
-        names(list, n, 3),
-        names(list, n, 4),
-        names(list, n, 5),
-    ]
+    [1, 2, 3, 4, 5].map(|code| all.names(code))
 }

@@ -2,11 +2,12 @@
 ghost use Rattle.std.specs.Prelude.{◌≡◌};
 ghost use Rattle.charger.specs.Vehicle.{no_vehicle, connector_of, compatible};
 
-use crate::connector::{Common, common_connector};
+use crate::connector::common_connector;
 use curve::units::Seconds;
 
-// `profile` is its charge profile's place in the plan. Its connectors, in its order of preference, are the first `count` codes.
-// Fleet 0 is none. It stands behind the codes, where it takes no room of its own.
+// `profile` is its charge profile's place in the plan. Its connectors, in its order of preference, are the first `count` codes:
+// a vehicle is `Copy`, and the library's vector is not.
+// Fleet 0 is none, as in a plan. It stands behind the codes, where it takes no room of its own.
 #[derive(Clone, Copy)]
 pub struct Vehicle {
     pub profile: usize,
@@ -21,7 +22,7 @@ pub struct Vehicle {
     pub limit: usize,
 }
 
-// One that fits no charger.
+// One that fits no charger. What a derived `Default` promises, field by field, does not prove the equation.
 pub fn no_vehicle() -> Vehicle
     ensures { result ≡ no_vehicle }
 {
@@ -40,7 +41,7 @@ pub fn no_vehicle() -> Vehicle
 }
 
 // The connector that the pair has in common: the first of the vehicle's that the charger has.
-pub fn connector_of(row: [bool; 5], vehicle: Vehicle) -> Common
+pub fn connector_of(row: [bool; 5], vehicle: Vehicle) -> Option<u8>
     ensures { result ≡ connector_of row vehicle }
 {
     let codes = vehicle.codes;
@@ -51,8 +52,5 @@ pub fn connector_of(row: [bool; 5], vehicle: Vehicle) -> Common
 pub fn fits(row: [bool; 5], vehicle: Vehicle) -> bool
     ensures { result ≡ compatible row vehicle }
 {
-    match connector_of(row, vehicle) {
-        Common::Connector(_) => true,
-        Common::Nothing => false,
-    }
+    connector_of(row, vehicle).is_some()
 }

@@ -1,43 +1,54 @@
 // The plan's vehicles (vehicle_list.rs).
 ghost use Rattle.std.specs.Prelude.{◌≡◌, ◌≤◌};
-ghost use Rattle.charger.specs.Vehicle.{vehicle_at};
+ghost use Rattle.charger.specs.Vehicle.{vehicle_at, no_vehicle};
 ghost use Rattle.charger.specs.Fleet.{places_of};
 ghost use Rattle.charger.specs.Code.Vehicles.{listed};
 
 use crate::vehicle::{Vehicle, no_vehicle};
+use arrayvec::ArrayVec;
 
-// The first `len` of `all`, and the queue places of fleets 1 to 64.
-#[derive(Clone, Copy)]
+impl Default for Vehicle {
+    fn default() -> Self {
+        no_vehicle()
+    }
+}
+
+// The vehicles in plan order, and the queue places of fleets 1 to 64.
+#[derive(Drop)]
 pub struct VehicleList {
-    pub all: [Vehicle; 64],
-    pub len: usize,
+    pub vehicles: ArrayVec<Vehicle, 64>,
     pub queue_places: [u8; 64],
 }
 
 impl VehicleList {
     // The vehicle at a place of the plan; past the last one that fits no charger.
-    pub fn get_vehicle(self, v: usize) -> Vehicle
-        ensures { result ≡ vehicle_at (listed self) v }
+    pub fn get_vehicle(&self, v: usize) -> Vehicle
+        ensures { result ≡ vehicle_at (listed self.now) v }
     {
-        let n = self.len;
-        if v < n {
-            if v < 64 {
-                return self.all[v];
-            }
+        match self.vehicles.get(v) {
+            Some(x) => *x,
+            None => no_vehicle(),
         }
-        no_vehicle()
+    }
+
+    // Its fleet; past the last vehicle there is none.
+    pub fn fleet_of(&self, v: usize) -> u16
+        ensures { result ≡ (vehicle_at (listed self.now) v).fleet }
+    {
+        match self.vehicles.get(v) {
+            Some(x) => x.fleet,
+            None => 0,
+        }
     }
 
     // The queue places of a fleet.
-    pub fn places_of(self, fleet: u16) -> u8
+    pub fn places_of(&self, fleet: u16) -> u8
         requires { 1 ≤ fleet }
-        ensures { result ≡ places_of self.queue_places fleet }
+        ensures { result ≡ places_of self.now.queue_places fleet }
     {
-        let places = self.queue_places;
-        let k = (fleet - 1) as usize;
-        if k < 64 {
-            return places[k];
-        }
-        0
+        self.queue_places
+            .get((fleet - 1) as usize)
+            .copied()
+            .unwrap_or(0)
     }
 }

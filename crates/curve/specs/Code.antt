@@ -1,3 +1,3 @@
 -- The vocabulary of refinement: what the contracts of inner functions cite beside the rules.
-pub mod Rows
+pub mod Places
 pub mod Rising

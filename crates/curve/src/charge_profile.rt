@@ -3,11 +3,11 @@ ghost use Rattle.std.specs.Prelude.{◌≡◌, ◌+◌, ◌<◌, ◌≤◌, [], 
 ghost use Rattle.std.specs.Float.Ieee.{le};
 ghost use Rattle.curve.specs.F64.{greatest};
 ghost use Rattle.curve.specs.Curve as Curve;
-ghost use Rattle.curve.specs.Code.Rows as Rows;
+ghost use Rattle.curve.specs.Code.Places as Places;
 ghost use Rattle.curve.specs.Code.Rising.{Rises};
 
 use crate::float::{max, min};
-use crate::points::{Point, point_at, reached_by_points, reached_from, reached_near};
+use crate::points::{Point, reached, reached_from, reached_near};
 use crate::units::{Kw, Kwh, Seconds};
 
 // What charging takes: seconds, energy, and the largest average power of a segment.
@@ -47,34 +47,34 @@ pub fn between(p: Point, q: Point, soc: f64) -> Kw
 }
 
 // The power at `soc` if i points are at or below it.
-fn power_after(curve: &[[f64; 2]], i: usize, soc: f64) -> Kw
+fn power_after(curve: &[Point], i: usize, soc: f64) -> Kw
     requires { i ≤ length curve.now }
-    ensures { result ≡ Curve.power_after (Rows.points curve.now) soc i }
+    ensures { result ≡ Curve.power_after curve.now soc i }
 {
     let n = curve.len();
     if n == 0 {
         return Kw(0.0);
     }
     if i == 0 {
-        return Kw(curve[0][1]);
+        return curve[0].power;
     }
     if i == n {
-        return Kw(curve[n - 1][1]);
+        return curve[n - 1].power;
     }
-    between(point_at(curve, i - 1), point_at(curve, i), soc)
+    between(curve[i - 1], curve[i], soc)
 }
 
 // The power at `soc`.
-pub fn power_at(curve: &[[f64; 2]], soc: f64) -> Kw
-    ensures { result ≡ Curve.power_at (Rows.points curve.now) soc }
+pub fn power_at(curve: &[Point], soc: f64) -> Kw
+    ensures { result ≡ Curve.power_at curve.now soc }
 {
-    power_after(curve, reached_by_points(curve, soc), soc)
+    power_after(curve, reached(curve, soc), soc)
 }
 
 // The place of `soc` where the points rise and `near` of them, and at most a few more, are at or below it.
-pub fn place_near(curve: &[[f64; 2]], near: usize, soc: f64) -> Place
-    requires { Rises le (Rows.points curve.now) }
-    ensures { result ≡ Rows.place (Rows.points curve.now) soc }
+pub fn place_near(curve: &[Point], near: usize, soc: f64) -> Place
+    requires { Rises le curve.now }
+    ensures { result ≡ Places.place curve.now soc }
 {
     let reached = reached_near(curve, near, soc);
     Place {
@@ -84,9 +84,9 @@ pub fn place_near(curve: &[[f64; 2]], near: usize, soc: f64) -> Place
 }
 
 // The place of `soc`, where the first i points are at or below it.
-fn locate_from(curve: &[[f64; 2]], i: usize, soc: f64) -> Place
-    requires { i ≤ Curve.reached soc (Rows.points curve.now) }
-    ensures { result ≡ Rows.place (Rows.points curve.now) soc }
+fn locate_from(curve: &[Point], i: usize, soc: f64) -> Place
+    requires { i ≤ Curve.reached soc curve.now }
+    ensures { result ≡ Places.place curve.now soc }
 {
     let reached = reached_from(curve, i, soc);
     Place {
@@ -96,16 +96,16 @@ fn locate_from(curve: &[[f64; 2]], i: usize, soc: f64) -> Place
 }
 
 // The place of `soc`.
-fn locate(curve: &[[f64; 2]], soc: f64) -> Place
-    ensures { result ≡ Rows.place (Rows.points curve.now) soc }
+fn locate(curve: &[Point], soc: f64) -> Place
+    ensures { result ≡ Places.place curve.now soc }
 {
     locate_from(curve, 0, soc)
 }
 
 // The place of `to` from that of `from`. Upward the search goes on where the last one ended.
-fn onward(curve: &[[f64; 2]], from: f64, place: Place, to: f64) -> Place
-    requires { place ≡ Rows.place (Rows.points curve.now) from }
-    ensures { result ≡ Rows.place (Rows.points curve.now) to }
+fn onward(curve: &[Point], from: f64, place: Place, to: f64) -> Place
+    requires { place ≡ Places.place curve.now from }
+    ensures { result ≡ Places.place curve.now to }
 {
     if from <= to {
         return locate_from(curve, place.reached, to);
@@ -114,9 +114,9 @@ fn onward(curve: &[[f64; 2]], from: f64, place: Place, to: f64) -> Place
 }
 
 // The place of the larger of `soc` and `start`, from that of `soc`.
-fn from_start(curve: &[[f64; 2]], soc: f64, place: Place, start: f64) -> Place
-    requires { place ≡ Rows.place (Rows.points curve.now) soc }
-    ensures { result ≡ Rows.place (Rows.points curve.now) (greatest soc start) }
+fn from_start(curve: &[Point], soc: f64, place: Place, start: f64) -> Place
+    requires { place ≡ Places.place curve.now soc }
+    ensures { result ≡ Places.place curve.now (greatest soc start) }
 {
     if soc != soc {
         return locate(curve, start);
@@ -138,9 +138,9 @@ fn average(a: Kw, b: Kw, cap: Kw) -> Kw
 }
 
 // Charging over the part of the segment from p to q between the SOC reached and the target.
-fn part(curve: &[[f64; 2]], battery: Kwh, target: f64, cap: Kw, p: Point, q: Point, w: Walk) -> Walk
-    requires { w ≡ Rows.walk (Rows.points curve.now) w.charge }
-    ensures { result ≡ Rows.walk (Rows.points curve.now) (Curve.part (Rows.points curve.now) battery target cap p q w.charge) }
+fn part(curve: &[Point], battery: Kwh, target: f64, cap: Kw, p: Point, q: Point, w: Walk) -> Walk
+    requires { w ≡ Places.walk curve.now w.charge }
+    ensures { result ≡ Places.walk curve.now (Curve.part curve.now battery target cap p q w.charge) }
 {
     let c = w.charge;
     let s = max(c.soc, p.soc);
@@ -163,17 +163,9 @@ fn part(curve: &[[f64; 2]], battery: Kwh, target: f64, cap: Kw, p: Point, q: Poi
 }
 
 // The same, if the SOC reached is below the target and the segment's end.
-fn through(
-    curve: &[[f64; 2]],
-    battery: Kwh,
-    target: f64,
-    cap: Kw,
-    p: Point,
-    q: Point,
-    w: Walk,
-) -> Walk
-    requires { w ≡ Rows.walk (Rows.points curve.now) w.charge }
-    ensures { result ≡ Rows.walk (Rows.points curve.now) (Curve.through (Rows.points curve.now) battery target cap p q w.charge) }
+fn through(curve: &[Point], battery: Kwh, target: f64, cap: Kw, p: Point, q: Point, w: Walk) -> Walk
+    requires { w ≡ Places.walk curve.now w.charge }
+    ensures { result ≡ Places.walk curve.now (Curve.through curve.now battery target cap p q w.charge) }
 {
     if target <= w.charge.soc {
         return w;
@@ -185,29 +177,27 @@ fn through(
 }
 
 // How many points, from the first, have a SOC at or below `soc`, by the test that a segment is skipped for.
-fn passed(curve: &[[f64; 2]], soc: f64) -> usize
+fn passed(curve: &[Point], soc: f64) -> usize
     ensures bounded { result ≤ length curve.now }
-    ensures found { result ≡ Rows.passed soc (Rows.points curve.now) }
+    ensures found { result ≡ Places.passed soc curve.now }
 {
-    let mut i = 0;
-    while i < curve.len() {
-        if !(curve[i][0] <= soc) {
+    for (i, p) in curve.iter().enumerate() {
+        if !(p.soc <= soc) {
             return i;
         }
-        i += 1;
     }
-    i
+    curve.len()
 }
 
 // What charging from one SOC to another takes, with the power capped throughout.
 pub fn integrate_over(
-    curve: &[[f64; 2]],
+    curve: &[Point],
     battery: Kwh,
     start: f64,
     target: f64,
     cap: Kw,
 ) -> ChargingOutput
-    ensures { result ≡ Curve.integrate_over (Rows.points curve.now) battery start target cap }
+    ensures { result ≡ Curve.integrate_over curve.now battery start target cap }
 {
     let none = ChargingOutput {
         duration: Seconds(0.0),
@@ -225,16 +215,14 @@ pub fn integrate_over(
         },
         place: locate_from(curve, skipped, start),
     };
-    let mut i = if skipped == 0 { 1 } else { skipped };
-    let mut p = point_at(curve, i - 1);
-    while i < curve.len() {
+    let first = skipped.saturating_sub(1);
+    let mut p = curve[first];
+    for q in &curve[first + 1..] {
         if target <= w.charge.soc {
             return w.charge.output;
         }
-        let q = point_at(curve, i);
-        w = through(curve, battery, target, cap, p, q, w);
-        p = q;
-        i += 1;
+        w = through(curve, battery, target, cap, p, *q, w);
+        p = *q;
     }
     w.charge.output
 }

@@ -1,2 +1,1 @@
 -- Laws of the refinement, stated once.
-pub mod Laid

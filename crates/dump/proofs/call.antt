@@ -1,3 +1,4 @@
 -- Laws that the functions of the module and of others cite.
+pub mod Standing
 pub mod Laws
 pub mod Dumped

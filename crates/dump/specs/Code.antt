@@ -1,3 +1,2 @@
 -- The vocabulary of refinement: what the contracts of inner functions cite beside the rules.
-pub mod Laid
 pub mod Dumping

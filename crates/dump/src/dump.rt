@@ -7,33 +7,25 @@ ghost use Rattle.dump.specs.Code.Dumping.{Dumpable};
 
 use crate::event_blocks::put_event_blocks;
 use crate::header::put_state;
-use charger::vehicle_list::VehicleList;
 use engine::discrete::State;
+use engine::site::Site;
 use files::book_session::entries;
 use files::session_blocks::put_session_blocks;
 
 // Lays the dump of a state into s, and gives its length; the bytes past it stay.
-pub fn put_dump(
-    s: &mut [u8],
-    plan: &[u8],
-    vehicles: VehicleList,
-    rows: [[bool; 5]; 32],
-    state: State,
-    chargers: usize,
-) -> usize
-    requires { Dumpable plan.now vehicles rows state chargers × (16384 ≤ length s.old) }
-    ensures bytes { s.new ≡ written (dump_bytes plan.now (model chargers state)) s.old }
-    ensures length { result ≡ length (dump_bytes plan.now (model chargers state)) }
+pub fn put_dump(s: &mut [u8], plan: &[u8], site: &Site, state: &State) -> usize
+    requires state { Dumpable plan.now site.now state.now }
+    requires room { 16384 ≤ length s.old }
+    ensures bytes { s.new ≡ written (dump_bytes plan.now (model state.now)) s.old }
+    ensures length { result ≡ length (dump_bytes plan.now (model state.now)) }
     ensures within { result ≤ length s.new }
 {
-    let simulation = state.simulation;
-    let events = simulation.events;
-    let sessions = simulation.sessions;
-    let n = sessions.len;
-    let blocks = (events.tail - events.head + 30) / 31;
-    let all = entries(plan, vehicles, rows, sessions);
-    put_state(s, plan, state, chargers);
+    let events = state.simulation.events.as_slice();
+    let all = entries(plan, site, state.simulation.sessions.as_slice());
+    let sessions = all.as_slice();
+    let blocks = (events.len() + 30) / 31;
+    put_state(s, plan, state);
     put_event_blocks(s, 512, 2, plan, events);
-    put_session_blocks(s, 512 + 512 * blocks, 2 + blocks as u32, all, n);
-    512 + 512 * blocks + 512 * ((n + 4) / 5)
+    put_session_blocks(s, 512 + 512 * blocks, 2 + blocks as u32, sessions);
+    512 + 512 * blocks + 512 * ((sessions.len() + 4) / 5)
 }

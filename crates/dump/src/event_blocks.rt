@@ -1,15 +1,13 @@
 // Blocks of pending events, 31 a block, in the order in which they pop.
-ghost use Rattle.std.specs.Prelude.{◌≡◌, ◌++◌, map, ◌+◌, ◌*◌, ◌/◌, ◌≤◌, ◌<◌, length};
+ghost use Rattle.std.specs.Prelude.{◌≡◌, ◌++◌, ◌+◌, ◌*◌, ◌≤◌, length, reverse, slice_get};
 ghost use Rattle.std.proofs.lemmas.List.Edits.{sets};
 ghost use Rattle.charger.specs.Lists.{All};
-ghost use Rattle.engine.specs.Code.Simulation.{pending};
 ghost use Rattle.plan.specs.Bytes.{bytes, pieces};
 ghost use Rattle.plan.specs.Blocks.{sealed};
-ghost use Rattle.dump.specs.EventBlocks.{kind_number, block_by, blocks_of_events, event_blocks};
+ghost use Rattle.dump.specs.EventBlocks.{kind_number, block_by, event_bytes, event_slot, blocks_of_events, event_blocks};
 ghost use Rattle.dump.specs.Code.Dumping.{NearEvent};
-ghost use Rattle.dump.specs.Code.Laid.{Laid, event_row, no_row, row_bytes, row_slot, row_block};
 
-use engine::events::{Event, EventQueue, EventType};
+use engine::events::{Event, EventType};
 use plan::blocks::seal;
 use plan::bytes::{put, put_fields};
 use plan::places::{Kind, place_of};
@@ -17,11 +15,7 @@ use plan::places::{Kind, place_of};
 fn kind_number(kind: EventType) -> u64
     ensures { result ≡ kind_number kind }
 {
-    match kind {
-        EventType::Arrival => 0,
-        EventType::Renege => 1,
-        EventType::Unplug => 2,
-    }
+    kind as u64
 }
 
 // The block in the plan that an event names: for an unplug the charger's, else the vehicle's.
@@ -29,83 +23,84 @@ fn block_by(plan: &[u8], e: Event) -> usize
     requires { (512 ≤ length plan.now) × NearEvent e }
     ensures { result ≡ block_by plan.now e.kind e.vehicle e.charger }
 {
-    let kind = e.kind;
-    match kind {
+    match e.kind {
         EventType::Arrival => place_of(plan, Kind::Vehicle, e.vehicle),
         EventType::Renege => place_of(plan, Kind::Vehicle, e.vehicle),
         EventType::Unplug => place_of(plan, Kind::Charger, e.charger),
     }
 }
 
-// An event as a row: its time, the number of its kind, and its block.
-fn event_row(plan: &[u8], e: Event) -> [u64; 3]
-    requires { (512 ≤ length plan.now) × NearEvent e }
-    ensures { result ≡ event_row plan.now e }
+// Stores the 16 bytes of an event into s from at.
+fn put_event(s: &mut [u8], at: usize, plan: &[u8], e: Event)
+    requires room { at + 16 ≤ length s.old }
+    requires plan { 512 ≤ length plan.now }
+    requires near { NearEvent e }
+    ensures { s.new ≡ sets s.old at (event_bytes plan.now e) }
 {
-    let kind = e.kind;
-    [e.time, kind_number(kind), block_by(plan, e) as u64]
-}
-
-// The rows of the pending events. 217 are 7 blocks of 31; rows past the last event are zero.
-fn event_rows(plan: &[u8], events: EventQueue) -> [[u64; 3]; 217]
-    requires { (512 ≤ length plan.now) × (All NearEvent (pending events) × ((events.head ≤ events.tail) × (events.tail ≤ 192))) }
-    ensures { Laid no_row (map (event_row plan.now) (pending events)) result }
-{
-    let all = events.all;
-    let head = events.head;
-    let tail = events.tail;
-    let mut rows = [[0u64; 3]; 217];
-    for i in head..tail {
-        rows[i - head] = event_row(plan, all[i]);
-    }
-    rows
-}
-
-// Stores the 16 bytes of a row into s from at.
-fn put_event(s: &mut [u8], at: usize, row: [u64; 3])
-    requires { at + 16 ≤ length s.old }
-    ensures { s.new ≡ sets s.old at (row_bytes row) }
-{
-    let f: [u64; 10] = [8, row[0], 1, row[1], 1, 0, 2, row[2], 4, 0];
+    let block = block_by(plan, e) as u64;
+    let f: [u64; 10] = [8, e.time, 1, kind_number(e.kind), 1, 0, 2, block, 4, 0];
     put_fields(s, at, &f);
 }
 
-// Stores 31 rows, those from k on, into s from at.
-fn put_events(s: &mut [u8], at: usize, rows: &[[u64; 3]], k: usize)
-    requires { (at + 496 ≤ length s.old) × (k + 31 ≤ length rows.now) }
-    ensures { s.new ≡ sets s.old at (pieces (row_slot rows.now) k 31) }
+// The event at a place in the order in which they pop; they are kept the other way round.
+fn event_at(events: &[Event], k: usize) -> Option<Event>
+    ensures { result ≡ slice_get (reverse events.now) k }
+{
+    if k < events.len() {
+        return Some(events[events.len() - 1 - k]);
+    }
+    None
+}
+
+// Stores the event at the place k into s from at, or zero bytes where it is not there.
+fn put_slot(s: &mut [u8], at: usize, plan: &[u8], events: &[Event], k: usize)
+    requires room { at + 16 ≤ length s.old }
+    requires plan { 512 ≤ length plan.now }
+    requires near { All NearEvent (reverse events.now) }
+    ensures { s.new ≡ sets s.old at (event_slot plan.now (reverse events.now) k) }
+{
+    match event_at(events, k) {
+        Some(e) => put_event(s, at, plan, e),
+        None => put(s, at, 16, 0),
+    }
+}
+
+// Stores 31 events, those from the place k on, into s from at.
+fn put_events(s: &mut [u8], at: usize, plan: &[u8], events: &[Event], k: usize)
+    requires room { at + 496 ≤ length s.old }
+    requires plan { 512 ≤ length plan.now }
+    requires near { All NearEvent (reverse events.now) }
+    requires place { k ≤ 65536 }
+    ensures { s.new ≡ sets s.old at (pieces (event_slot plan.now (reverse events.now)) k 31) }
 {
     for i in 0..31 {
-        put_event(s, at + 16 * i, rows[k + i]);
+        put_slot(s, at + 16 * i, plan, events, k + i);
     }
 }
 
 // Stores them as a block, the place-th of its file.
-fn put_event_block(s: &mut [u8], at: usize, place: u32, rows: &[[u64; 3]], k: usize)
-    requires { (at + 512 ≤ length s.old) × (k + 31 ≤ length rows.now) }
-    ensures { s.new ≡ sets s.old at (sealed place (pieces (row_slot rows.now) k 31 ++ bytes 12 0)) }
+fn put_event_block(s: &mut [u8], at: usize, place: u32, plan: &[u8], events: &[Event], k: usize)
+    requires room { at + 512 ≤ length s.old }
+    requires plan { 512 ≤ length plan.now }
+    requires near { All NearEvent (reverse events.now) }
+    requires place { k ≤ 65536 }
+    ensures { s.new ≡ sets s.old at (sealed place (pieces (event_slot plan.now (reverse events.now)) k 31 ++ bytes 12 0)) }
 {
-    put_events(s, at, rows, k);
+    put_events(s, at, plan, events, k);
     put(s, at + 496, 12, 0);
     seal(s, at, place);
 }
 
-// Stores so many blocks of rows into s from at; the first of them is the place-th of its file.
-fn put_row_blocks(s: &mut [u8], at: usize, place: u32, rows: &[[u64; 3]], blocks: usize)
-    requires { (place ≤ 65536) × ((blocks ≤ 7) × ((at + 512 * blocks ≤ length s.old) × (217 ≤ length rows.now))) }
-    ensures { s.new ≡ sets s.old at (pieces (row_block place rows.now) 0 blocks) }
-{
-    for j in 0..blocks {
-        put_event_block(s, at + 512 * j, place + j as u32, rows, 31 * j);
-    }
-}
-
 // Stores the blocks of the pending events into s from at; the first of them is the place-th of its file.
-pub fn put_event_blocks(s: &mut [u8], at: usize, place: u32, plan: &[u8], events: EventQueue)
-    requires { ((place ≤ 65536) × (at + 512 * blocks_of_events events.tail ≤ length s.old)) × ((512 ≤ length plan.now) × (All NearEvent (pending events) × ((events.head ≤ events.tail) × (events.tail ≤ 192)))) }
-    ensures { s.new ≡ sets s.old at (event_blocks place plan.now (pending events)) }
+pub fn put_event_blocks(s: &mut [u8], at: usize, place: u32, plan: &[u8], events: &[Event])
+    requires few { length events.now ≤ 192 }
+    requires room { at + 512 * blocks_of_events (length events.now) ≤ length s.old }
+    requires plan { 512 ≤ length plan.now }
+    requires near { All NearEvent (reverse events.now) }
+    requires place { place ≤ 65536 }
+    ensures { s.new ≡ sets s.old at (event_blocks place plan.now (reverse events.now)) }
 {
-    let rows = event_rows(plan, events);
-    let n = events.tail - events.head;
-    put_row_blocks(s, at, place, &rows, (n + 30) / 31);
+    for j in 0..(events.len() + 30) / 31 {
+        put_event_block(s, at + 512 * j, place + j as u32, plan, events, 31 * j);
+    }
 }

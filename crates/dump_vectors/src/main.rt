@@ -10,10 +10,10 @@ use late_booking::late::book_late;
 use plan::answer::{check_numbers, run_numbers};
 use plan::bytes::put;
 use reading::read_full;
-use recorded::{answer_bytes, at_most, byte_at, change, mixed, u16_at, u32_at};
+use recorded::{Record, answer_bytes, digest};
 use std::io;
 
-// Of a call: 0 for dump, 1 for continue and 2 for late booking, its numbers, and the lengths of what is lent.
+// Of a call: the record's byte, 0 for dump, 1 for continue and 2 for late booking, its numbers, and the lengths of what is lent.
 #[derive(Clone, Copy)]
 struct Call {
     kind: usize,
@@ -24,107 +24,87 @@ struct Call {
     plan: usize,
 }
 
-fn call_at(recorded: &[u8], at: usize) -> Call {
+// The call that comes next in the record.
+fn next_call(record: &mut Record) -> Call {
     Call {
-        kind: byte_at(recorded, at),
-        engine: u32_at(recorded, at.wrapping_add(1)),
-        units: u32_at(recorded, at.wrapping_add(5)),
-        book: u16_at(recorded, at.wrapping_add(9)),
-        dump: u16_at(recorded, at.wrapping_add(13)),
-        plan: u16_at(recorded, at.wrapping_add(17)),
+        kind: record.byte(),
+        engine: record.u32(),
+        units: record.u32(),
+        book: record.u32() as usize,
+        dump: record.u32() as usize,
+        plan: record.u32() as usize,
     }
 }
 
-// The numbers of a late booking.
-fn late_numbers(c: Call, plan: &[u8], dump: &[u8], car: &[u8], new: &mut [u8]) -> [u64; 11] {
-    let length = at_most(c.engine as usize, car.len());
-    let room = at_most(c.book, new.len());
-    check_numbers(book_late(plan, dump, &car[..length], &mut new[..room]))
+// What the calls are lent.
+#[derive(Drop)]
+struct Buffers {
+    plan: [u8; 65536],
+    book: [u8; 7680],
+    dump: [u8; 16640],
+    car: [u8; 1024],
+    new: [u8; 16640],
 }
 
-// The numbers of a run that is dumped or continued.
-fn run_call(c: Call, plan: &[u8], book: &mut [u8], dump: &mut [u8]) -> [u64; 11] {
-    let room = at_most(c.book, book.len());
-    if c.kind == 0 {
-        return run_numbers(call::dump(plan, c.engine, c.units, &mut book[..room], dump));
+impl Buffers {
+    // The numbers of a late booking.
+    fn book_late(&mut self, c: Call) -> [u64; 11] {
+        let plan = &self.plan[..c.plan.min(self.plan.len())];
+        let dump = &self.dump[..c.dump.min(self.dump.len())];
+        let car = &self.car[..(c.engine as usize).min(self.car.len())];
+        let new = &mut self.new[..];
+        let room = c.book.min(new.len());
+        check_numbers(book_late(plan, dump, car, &mut new[..room]))
     }
-    run_numbers(resume(plan, dump, c.units, &mut book[..room]))
-}
 
-fn digest(s: &[u8]) -> u64 {
-    let mut sum: u64 = 0;
-    let mut i: usize = 0;
-    while i < s.len() {
-        sum = mixed(sum, byte_at(s, i) as u64);
-        i += 1;
+    // The numbers of a run that is dumped or continued.
+    fn run(&mut self, c: Call) -> [u64; 11] {
+        let plan = &self.plan[..c.plan.min(self.plan.len())];
+        let book = &mut self.book[..];
+        let dump = &mut self.dump[..];
+        let room = c.book.min(book.len());
+        let d = c.dump.min(dump.len());
+        if c.kind == 0 {
+            return run_numbers(call::dump(
+                plan,
+                c.engine,
+                c.units,
+                &mut book[..room],
+                &mut dump[..d],
+            ));
+        }
+        run_numbers(resume(plan, &dump[..d], c.units, &mut book[..room]))
     }
-    sum
-}
 
-fn write_answer(
-    rt: &impl Print,
-    numbers: [u64; 11],
-    book: u64,
-    dump: u64,
-    new: u64,
-) -> io::Result<()> {
-    rt.write_all(&answer_bytes(numbers, book, dump))?;
-    let mut last = [0u8; 8];
-    put(&mut last, 0, 8, new);
-    rt.write_all(&last)
-}
-
-// Makes the call, on the first bytes of the buffers of plan and dump.
-fn make_call(
-    c: Call,
-    plan: &[u8],
-    book: &mut [u8],
-    dump: &mut [u8],
-    car: &[u8],
-    new: &mut [u8],
-) -> [u64; 11] {
-    let p = at_most(c.plan, plan.len());
-    let d = at_most(c.dump, dump.len());
-    if c.kind == 2 {
-        return late_numbers(c, &plan[..p], &dump[..d], car, new);
+    // Makes the call that comes next in the record, and writes its answer.
+    fn replay_call(&mut self, rt: &impl Print, record: &mut Record) -> io::Result<()> {
+        let c = next_call(record);
+        record.change(&mut self.plan);
+        record.change(&mut self.dump);
+        record.change(&mut self.car);
+        let numbers = if c.kind == 2 {
+            self.book_late(c)
+        } else {
+            self.run(c)
+        };
+        rt.write_all(&answer_bytes(numbers, digest(&self.book), digest(&self.dump)))?;
+        let mut last = [0u8; 8];
+        put(&mut last, 0, 8, digest(&self.new));
+        rt.write_all(&last)
     }
-    run_call(c, &plan[..p], book, &mut dump[..d])
 }
 
-// Makes the call that the record has at `at`, writes its answer, and gives the place behind it.
-fn replay_call(
-    rt: &impl Print,
-    recorded: &[u8],
-    at: usize,
-    plan: &mut [u8],
-    book: &mut [u8],
-    dump: &mut [u8],
-    car: &mut [u8],
-    new: &mut [u8],
-) -> io::Result<usize> {
-    let c = call_at(recorded, at);
-    let changed = change(plan, recorded, at.wrapping_add(21));
-    let dumped = change(dump, recorded, changed);
-    let next = change(car, recorded, dumped);
-    let numbers = make_call(c, plan, book, dump, car, new);
-    write_answer(rt, numbers, digest(book), digest(dump), digest(new))?;
-    Ok(next)
-}
-
-fn replay(rt: &impl Print, recorded: &[u8]) -> io::Result<()> {
-    let mut plan = [0u8; 65536];
-    let mut book = [0u8; 7680];
-    let mut dump = [0u8; 16640];
-    let mut car = [0u8; 1024];
-    let mut new = [0u8; 16640];
-    let calls = u16_at(recorded, 0);
-    let mut at: usize = 4;
-    let mut k: usize = 0;
-    while k < calls {
-        at = replay_call(
-            rt, recorded, at, &mut plan, &mut book, &mut dump, &mut car, &mut new,
-        )?;
-        k += 1;
+fn replay(rt: &impl Print, record: &mut Record) -> io::Result<()> {
+    let mut buffers = Buffers {
+        plan: [0; 65536],
+        book: [0; 7680],
+        dump: [0; 16640],
+        car: [0; 1024],
+        new: [0; 16640],
+    };
+    let calls = record.u32();
+    for _ in 0..calls {
+        buffers.replay_call(rt, record)?;
     }
     Ok(())
 }
@@ -132,5 +112,5 @@ fn replay(rt: &impl Print, recorded: &[u8]) -> io::Result<()> {
 fn main(rt: HostRuntime) -> io::Result<()> {
     let mut record = [0u8; 65536];
     let n = read_full(&mut rt.stdin(), &mut record)?;
-    replay(&rt, &record[..n])
+    replay(&rt, &mut Record { rest: &record[..n] })
 }

@@ -1,5 +1,4 @@
 pub mod Before
 pub mod Order
 pub mod Push
-pub mod Rows
 pub mod Generated

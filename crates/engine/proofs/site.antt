@@ -6,6 +6,5 @@ pub mod Fitted
 pub mod Fleets
 pub mod AsBefore
 pub mod Places
-pub mod At
 pub mod Simulations
 pub mod Handlers

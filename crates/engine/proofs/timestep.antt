@@ -6,6 +6,6 @@ pub mod Quiet
 pub mod DueFirst
 pub mod Opened
 pub mod Ends
-pub mod Begins
 pub mod LoopTurn
 pub mod LoopRun
+pub mod Begins

@@ -1,5 +1,5 @@
 -- Rules. The run by events: a unit is one popped event, also a renege that finds nobody.
-use Rattle.std.specs.Prelude.{ℕ, zero, suc, ◌+◌, ◌-◌, Bool, true, false, List, [], ◌∷◌}
+use Rattle.std.specs.Prelude.{ℕ, zero, suc, ◌+◌, ◌-◌, Bool, true, false, List, [], ◌∷◌, Option, Some, None}
 use Rattle.curve.specs.declared.charge_profile.ChargingOutput.{ChargingOutput}
 use Rattle.charger.specs.declared.vehicle.Vehicle.{Vehicle}
 use Rattle.engine.specs.declared.events.Event.{Event}
@@ -10,9 +10,14 @@ use Rattle.engine.specs.Events.{unplug, push}
 use Rattle.engine.specs.SiteState.{Engine, SiteState, is_empty, initial, popped}
 
 -- who stands at a charger: no car, or the vehicle at a place of the plan
-pub data Occupant : Type 0 where
-  no_car : Occupant
-  car : VehiclePlace → Occupant
+abbrev pub Occupant : Type 0
+Occupant = Option VehiclePlace
+
+pattern abbrev pub no_car : Occupant
+no_car = None
+
+pattern abbrev pub car : VehiclePlace → Occupant
+car v = Some v
 
 abbrev pub is_vacant : Occupant → Bool
 is_vacant no_car = true

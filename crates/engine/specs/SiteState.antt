@@ -1,5 +1,5 @@
 -- Rules. The state of a site, and what both engines do to it alike: an arrival, a renege, a freed charger.
-use Rattle.std.specs.Prelude.{ℕ, zero, suc, ◌-◌, Bool, true, false, ◌&&◌, ◌||◌, List, [], ◌∷◌, ◌++◌, length, replicate, nat_eq, nat_le, slice_set}
+use Rattle.std.specs.Prelude.{ℕ, zero, suc, ◌-◌, Bool, true, false, ◌&&◌, ◌||◌, List, [], ◌∷◌, ◌++◌, length, replicate, nat_eq, nat_le, slice_set, Option, Some, None}
 use Rattle.curve.specs.F64.{ratio}
 use Rattle.charger.specs.declared.vehicle.Vehicle.{Vehicle}
 use Rattle.charger.specs.First.{Found, nobody, found, first}
@@ -11,8 +11,6 @@ use Rattle.engine.specs.declared.events.EventType.TheVariants.{Arrival, Renege, 
 use Rattle.engine.specs.declared.session.Session.{Session}
 use Rattle.engine.specs.declared.session.Outcome.{Outcome}
 use Rattle.engine.specs.declared.session.Outcome.TheVariants.{Reneged, Balked}
-use Rattle.engine.specs.declared.site.Written.{Written}
-use Rattle.engine.specs.declared.site.Written.TheVariants.{Nothing, Books}
 use Rattle.engine.specs.Plan.{Time, VehiclePlace, ChargerPlace, Plan, fits}
 use Rattle.engine.specs.Events.{generate}
 
@@ -64,7 +62,7 @@ uncharged v o waited =
 -- the queue that is left, and what is written down
 pub record Change : Type 0 where
   pub queue : List VehiclePlace
-  pub written : Written
+  pub written : Option Session
 
 -- the queue has reached the vehicle's own limit
 abbrev pub limit_reached : List Vehicle → VehiclePlace → List VehiclePlace → Bool
@@ -76,17 +74,17 @@ balks vehicles places v queue = limit_reached vehicles v queue || fleet_full veh
 
 -- no charger: balk, else wait
 abbrev pub turned : VehiclePlace → List VehiclePlace → Bool → Change
-turned v queue true = record { queue = queue; written = Books (uncharged v Balked 0) }
-turned v queue false = record { queue = queue ++ (v ∷ []); written = Nothing }
+turned v queue true = record { queue = queue; written = Some (uncharged v Balked 0) }
+turned v queue false = record { queue = queue ++ (v ∷ []); written = None }
 
 -- a renege finds its vehicle queued, and it leaves, or finds nobody
 abbrev pub withdrawn : List Vehicle → Time → List VehiclePlace → Found → Change
-withdrawn vehicles now queue nobody = record { queue = queue; written = Nothing }
-withdrawn vehicles now queue (found v rest) = record { queue = rest; written = Books (uncharged v Reneged (now - (vehicle_at vehicles v).arrival)) }
+withdrawn vehicles now queue nobody = record { queue = queue; written = None }
+withdrawn vehicles now queue (found v rest) = record { queue = rest; written = Some (uncharged v Reneged (now - (vehicle_at vehicles v).arrival)) }
 
-abbrev pub with_written : Written → List Session → List Session
-with_written Nothing sessions = sessions
-with_written (Books x) sessions = sessions ++ (x ∷ [])
+abbrev pub with_written : Option Session → List Session → List Session
+with_written None sessions = sessions
+with_written (Some x) sessions = sessions ++ (x ∷ [])
 
 -- ---- the state
 

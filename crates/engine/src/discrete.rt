@@ -1,50 +1,26 @@
 // The event engine (simulation/discrete.rs).
-ghost use Rattle.std.specs.Prelude.{◌≡◌, ℕ, ◌+◌, ◌^◌, ◌<◌, ◌≤◌, false, take, ◌==◌, slice_index, slice_index_or, slice_set};
+ghost use Rattle.std.specs.Prelude.{◌≡◌, ℕ, ◌+◌, ◌^◌, ◌<◌, ◌≤◌, false, length, slice_index_or, slice_set};
 ghost use Rattle.curve.specs.F64.{ceiling};
 ghost use Rattle.charger.specs.Lists.{tick, All};
-ghost use Rattle.charger.specs.Vehicle.{vehicle_at};
 ghost use Rattle.charger.specs.Code.Vehicles.{listed};
-ghost use Rattle.engine.specs.Plan.{stay_of};
 ghost use Rattle.engine.specs.Events.{Ordered};
-ghost use Rattle.engine.specs.Discrete.{session_of, charged_session, run};
+ghost use Rattle.engine.specs.SiteState.{start_charging, handle, release};
+ghost use Rattle.engine.specs.Discrete.{no_car, is_vacant, charged_session, events, start, run};
 ghost use Rattle.engine.specs.Demand.{is_arrival};
-ghost use Rattle.engine.specs.Code.Simulation.{pending, plan_of, event_state, model, InTime, Sound, RunSoFar, effect_of, Effected};
+ghost use Rattle.engine.specs.Code.Simulation.{pending, plan_of, model, InTime, RunSoFar, Becomes, Admits};
 
-use crate::events::{Event, EventQueue, EventType};
-use crate::session::{Outcome, Session, Sessions, minus};
-use crate::site::{
-    QueueChange, Simulation, Site, Written, charger_of, charging_output, free_charger, renege,
-    row_of, turn_away,
-};
-use charger::vehicle::Vehicle;
-use charger::vehicle_list::VehicleList;
-use charger::waiting_queue::WaitingQueue;
-use curve::charge_profile::ChargingOutput;
+use crate::events::{Event, EventType};
+use crate::session::{Outcome, Session};
+use crate::site::{Simulation, Site};
+use arrayvec::ArrayVec;
 use curve::float::ceil;
 use curve::units::Seconds;
 
-// Who stands at each charger, beside the rest of the site's state: 0 for nobody, else one more than the vehicle's place in
-// the plan. The events handled are those before the queue's head.
-#[derive(Clone, Copy)]
+// Who stands at each charger, by the vehicle's place in the plan, beside the rest of the site's state.
+#[derive(Drop)]
 pub struct State {
     pub simulation: Simulation,
-    pub places: [u8; 32],
-}
-
-// What becomes of a vehicle: nothing that is written down, a charger that it takes, or a session without charge.
-#[derive(Clone, Copy)]
-pub enum Action {
-    Nothing,
-    PlugsIn(usize, usize),
-    Books(Session),
-}
-
-// What an event does: the queue and the chargers' places that it leaves, and then the action.
-#[derive(Clone, Copy)]
-pub struct Effect {
-    pub queue: WaitingQueue,
-    pub places: [u8; 32],
-    pub action: Action,
+    pub places: ArrayVec<Option<usize>, 32>,
 }
 
 // The whole seconds from plug-in to unplug: charge duration rounded up, and idle rounded up.
@@ -56,271 +32,151 @@ fn stay(duration: Seconds, idle: Seconds) -> u64
     ceil(Seconds(charging)) + ceil(Seconds(parked))
 }
 
-// The places with one of them set; a charger that is not there has none.
-fn placed(places: [u8; 32], c: usize, number: u8) -> [u8; 32]
-    ensures { result ≡ slice_set places c number }
-{
-    let mut p = places;
-    if c < 32 {
-        p[c] = number;
-    }
-    p
-}
-
-// The places once the vehicle stands at the charger.
-fn occupied(places: [u8; 32], c: usize, v: usize) -> [u8; 32]
-    requires { v < 64 }
-    ensures { result ≡ slice_set places c (v + 1) }
-{
-    placed(places, c, (v + 1) as u8)
-}
-
-// Which chargers are free.
-fn free_of(places: [u8; 32]) -> [bool; 32]
-    ensures { (c : ℕ) → c < 32 → slice_index_or result c false ≡ (slice_index places c == 0) }
-{
-    let mut free = [false; 32];
-    let mut c = 0;
-    while c < 32 {
-        free[c] = places[c] == 0;
-        c += 1;
-    }
-    free
-}
-
-// The session of a car that takes a charger, by what its charge takes.
-fn session_of(v: usize, c: usize, time: u64, car: Vehicle, charge: ChargingOutput) -> Session
+// The session of the vehicle `v` that takes the charger `c`, by what its charge takes.
+#[tactic(auto, unfolding(crate::specs::Discrete::charged_session, crate::specs::Plan::stay))]
+fn charge(site: &Site, time: u64, v: usize, c: usize) -> Session
     requires { time < 2 ^ 63 }
-    ensures { result ≡ session_of time v c car charge (stay_of car charge) }
+    ensures { result ≡ charged_session (plan_of site.now) time v c }
 {
-    let duration = charge.duration;
-    let idle = car.idle;
-    let until = time + stay(duration, idle);
-    let wait = minus(time, car.arrival);
-    let peak = charge.peak;
-    let energy = charge.energy;
+    let car = site.vehicles.get_vehicle(v);
+    let output = site.output(v, c);
     Session {
         vehicle: v,
         outcome: Outcome::Charged,
         charger: c,
         plugin: time,
-        unplug: until,
-        wait: wait,
-        duration: duration,
-        idle: idle,
-        peak: peak,
-        energy: energy,
+        unplug: time + stay(output.duration, car.idle),
+        wait: time.saturating_sub(car.arrival),
+        duration: output.duration,
+        idle: car.idle,
+        peak: output.peak,
+        energy: output.energy,
     }
 }
 
-// The session of the vehicle `v`, which is this car, that takes the charger `c`.
-fn charge(
-    site: Site,
-    rows: [[bool; 5]; 32],
-    curves: &[[f64; 2]],
-    lens: &[u8],
-    time: u64,
-    v: usize,
-    car: Vehicle,
-    c: usize,
-) -> Session
-    requires { (time < 2 ^ 63) × (car ≡ vehicle_at (listed site.vehicles) v) }
-    ensures { result ≡ charged_session (plan_of site rows curves.now lens.now) time v c }
-{
-    let chargers = site.chargers;
-    let batteries = site.batteries;
-    let charger = charger_of(chargers, site.count, c);
-    let row = row_of(rows, site.count, c);
-    let output = charging_output(car, charger, row, batteries, curves, lens);
-    session_of(v, c, time, car, output)
-}
-
-// The effect of an event that gives nobody a charger and frees none.
-fn effect_of(change: QueueChange, places: [u8; 32]) -> Effect
-    ensures { result ≡ effect_of change places }
-{
-    let queue = change.queue;
-    let written = change.written;
-    match written {
-        Written::Nothing => Effect {
-            queue: queue,
-            places: places,
-            action: Action::Nothing,
-        },
-        Written::Books(x) => Effect {
-            queue: queue,
-            places: places,
-            action: Action::Books(x),
-        },
+impl State {
+    // The start of a run: everybody is yet to arrive.
+    pub fn new(site: &Site) -> Self
+        requires { All InTime (listed site.now.vehicles) }
+        ensures { model result ≡ start (plan_of site.now) }
+    {
+        let mut places = ArrayVec::<Option<usize>, 32>::new();
+        for _c in 0..site.chargers.len() {
+            places.push(None);
+        }
+        State {
+            simulation: Simulation::new(&site.vehicles),
+            places,
+        }
     }
-}
 
-// An arrival takes the first free charger that fits, else it balks or waits.
-fn arrive(
-    v: usize,
-    queue: WaitingQueue,
-    places: [u8; 32],
-    vehicles: VehicleList,
-    rows: [[bool; 5]; 32],
-    count: usize,
-) -> Effect
-    requires { (queue.len < 64) × (count ≤ 32) }
-    ensures { (time c : ℕ) → Effected (listed vehicles) vehicles.queue_places (take count rows) count EventType.Arrival time v c queue places result }
-{
-    let vehicle = vehicles.get_vehicle(v);
-    let c = free_charger(free_of(places), rows, count, vehicle);
-    if c < count {
-        return Effect {
-            queue: queue,
-            places: places,
-            action: Action::PlugsIn(v, c),
-        };
+    // Which chargers are free.
+    fn free(&self) -> [bool; 32]
+        ensures { (c : ℕ) → c < length self.now.places.items → slice_index_or result c false ≡ is_vacant (slice_index_or self.now.places.items c no_car) }
+    {
+        let mut free = [false; 32];
+        for (c, who) in self.places.iter().enumerate() {
+            free[c] = who.is_none();
+        }
+        free
     }
-    effect_of(turn_away(v, queue, vehicles), places)
-}
 
-// An unplug frees the charger, and the first queued vehicle that fits it takes it at once.
-fn unplug(
-    c: usize,
-    queue: WaitingQueue,
-    places: [u8; 32],
-    vehicles: VehicleList,
-    rows: [[bool; 5]; 32],
-    count: usize,
-) -> Effect
-    requires { queue.len ≤ 64 }
-    ensures { (time v : ℕ) → Effected (listed vehicles) vehicles.queue_places (take count rows) count EventType.Unplug time v c queue places result }
-{
-    let popped = queue.pop_compatible(vehicles, row_of(rows, count, c));
-    let freed = placed(places, c, 0);
-    if popped.found {
-        let left = popped.queue;
-        return Effect {
-            queue: left,
-            places: freed,
-            action: Action::PlugsIn(popped.id, c),
-        };
+    // A charger that is not there has no place.
+    fn stand(&mut self, c: usize, who: Option<usize>)
+        ensures places { self.new.places.items ≡ slice_set self.old.places.items c who }
+        ensures rest { self.new.simulation ≡ self.old.simulation }
+    {
+        if c < self.places.len() {
+            self.places[c] = who;
+        }
     }
-    Effect {
-        queue: queue,
-        places: freed,
-        action: Action::Nothing,
-    }
-}
 
-// What an event does.
-fn handle(
-    e: Event,
-    queue: WaitingQueue,
-    places: [u8; 32],
-    vehicles: VehicleList,
-    rows: [[bool; 5]; 32],
-    count: usize,
-) -> Effect
-    requires { (queue.len + tick (is_arrival e.kind) ≤ 64) × (count ≤ 32) }
-    ensures { Effected (listed vehicles) vehicles.queue_places (take count rows) count e.kind e.time e.vehicle e.charger queue places result }
-{
-    let kind = e.kind;
-    match kind {
-        EventType::Arrival => arrive(e.vehicle, queue, places, vehicles, rows, count),
-        EventType::Renege => effect_of(renege(e.time, e.vehicle, queue, vehicles), places),
-        EventType::Unplug => unplug(e.charger, queue, places, vehicles, rows, count),
+    // The vehicle takes the charger.
+    #[tactic(auto, unfolding(crate::specs::SiteState::start_charging))]
+    fn plug_in(&mut self, site: &Site, time: u64, v: usize, c: usize)
+        requires times { time < 2 ^ 63 }
+        requires room { Admits 1 self.old.simulation }
+        ensures { Becomes (start_charging (plan_of site.now) (events (plan_of site.now)) time v c) self.old self.new }
+    {
+        let x = charge(site, time, v, c);
+        self.simulation.events.push(Event {
+            time: x.unplug,
+            kind: EventType::Unplug,
+            vehicle: v,
+            charger: c,
+        });
+        self.simulation.sessions.push(x);
+        self.stand(c, Some(v));
     }
-}
 
-// The state of which these are the parts.
-fn state_of(events: EventQueue, queue: WaitingQueue, sessions: Sessions, places: [u8; 32]) -> State
-    ensures { result ≡ event_state events queue sessions places }
-{
-    State {
-        simulation: Simulation {
-            events: events,
-            queue: queue,
-            sessions: sessions,
-        },
-        places: places,
+    // An arrival takes the first free charger that fits, else it balks or waits.
+    fn arrive(&mut self, site: &Site, time: u64, v: usize)
+        requires times { time < 2 ^ 63 }
+        requires room { Admits 1 self.old.simulation }
+        requires places { length self.old.places.items ≡ length site.now.chargers.items }
+        ensures { (c : ℕ) → Becomes (handle (plan_of site.now) (events (plan_of site.now)) EventType.Arrival time v c) self.old self.new }
+    {
+        match site.free_charger(self.free(), site.vehicles.get_vehicle(v)) {
+            Some(c) => self.plug_in(site, time, v, c),
+            None => self.simulation.turn_away(v, &site.vehicles),
+        }
+    }
+
+    // An unplug frees the charger, and the first queued vehicle that fits it takes it at once.
+    fn unplug(&mut self, site: &Site, time: u64, c: usize)
+        requires times { time < 2 ^ 63 }
+        requires room { Admits 0 self.old.simulation }
+        ensures { Becomes (release (plan_of site.now) (events (plan_of site.now)) time c) self.old self.new }
+    {
+        self.stand(c, None);
+        if let Some(v) = self
+            .simulation
+            .queue
+            .pop_compatible(&site.vehicles, site.row(c))
+        {
+            self.plug_in(site, time, v, c);
+        }
+    }
+
+    // What an event does, which was popped.
+    fn handle(&mut self, site: &Site, e: Event)
+        requires times { e.time < 2 ^ 63 }
+        requires room { Admits (tick (is_arrival e.kind)) self.old.simulation }
+        requires places { length self.old.places.items ≡ length site.now.chargers.items }
+        ensures { Becomes (handle (plan_of site.now) (events (plan_of site.now)) e.kind e.time e.vehicle e.charger) self.old self.new }
+    {
+        match e.kind {
+            EventType::Arrival => self.arrive(site, e.time, e.vehicle),
+            EventType::Renege => self.simulation.renege(e.time, e.vehicle, &site.vehicles),
+            EventType::Unplug => self.unplug(site, e.time, e.charger),
+        }
     }
 }
 
 // The run goes on from a state that it has reached, by up to `further` events.
-pub fn go_on(
-    site: Site,
-    rows: [[bool; 5]; 32],
-    curves: &[[f64; 2]],
-    lens: &[u8],
-    state: State,
-    further: u64,
-) -> State
-    requires { (((site.vehicles.len ≤ 64) × (site.count ≤ 32)) × All InTime (listed site.vehicles)) × (Sound state.simulation × RunSoFar (plan_of site rows curves.now lens.now) site.count state) }
-    ensures same { model site.count result ≡ run (plan_of site rows curves.now lens.now) (state.simulation.events.head + further) }
-    ensures sound { Sound result.simulation }
-    ensures order { Ordered (pending result.simulation.events) }
+pub fn go_on(site: &Site, state: &mut State, further: u64)
+    requires few { length (listed site.now.vehicles) ≤ 64 }
+    requires times { All InTime (listed site.now.vehicles) }
+    requires reached { RunSoFar (plan_of site.now) state.old }
+    ensures same { model state.new ≡ run (plan_of site.now) (state.old.simulation.events.handled + further) }
+    ensures order { Ordered (pending state.new.simulation.events) }
 {
-    let vehicles = site.vehicles;
-    let start = state.simulation;
-    let mut events = start.events;
-    let mut queue = start.queue;
-    let mut sessions = start.sessions;
-    let mut places = state.places;
-    let mut i = 0;
-    while i < further {
-        let head = events.head;
-        if events.tail <= head {
-            return state_of(events, queue, sessions, places);
-        }
-        let e = events.all[head];
-        let effect = handle(e, queue, places, vehicles, rows, site.count);
-        let left = effect.queue;
-        let freed = effect.places;
-        let action = effect.action;
-        i += 1;
-        events.head = head + 1;
-        queue = left;
-        places = freed;
-        match action {
-            Action::Nothing => {}
-            Action::Books(x) => {
-                let at = sessions.len;
-                sessions.all[at] = x;
-                sessions.len = at + 1;
-            }
-            Action::PlugsIn(v, c) => {
-                let car = vehicles.all[v];
-                let x = charge(site, rows, curves, lens, e.time, v, car, c);
-                let at = sessions.len;
-                sessions.all[at] = x;
-                sessions.len = at + 1;
-                events = events.pushed(Event {
-                    time: x.unplug,
-                    kind: EventType::Unplug,
-                    vehicle: v,
-                    charger: c,
-                });
-                let taken = occupied(freed, c, v);
-                places = taken;
-            }
+    for i in 0..further {
+        match state.simulation.events.pop() {
+            Some(e) => state.handle(site, e),
+            None => return,
         }
     }
-    state_of(events, queue, sessions, places)
 }
 
 // The run of up to `allowance` events.
-pub fn run(
-    site: Site,
-    rows: [[bool; 5]; 32],
-    curves: &[[f64; 2]],
-    lens: &[u8],
-    allowance: u64,
-) -> State
-    requires { ((site.vehicles.len ≤ 64) × (site.count ≤ 32)) × All InTime (listed site.vehicles) }
-    ensures same { model site.count result ≡ run (plan_of site rows curves.now lens.now) allowance }
-    ensures sound { Sound result.simulation }
+pub fn run(site: &Site, allowance: u64) -> State
+    requires few { length (listed site.now.vehicles) ≤ 64 }
+    requires times { All InTime (listed site.now.vehicles) }
+    ensures same { model result ≡ run (plan_of site.now) allowance }
     ensures order { Ordered (pending result.simulation.events) }
 {
-    let vehicles = site.vehicles;
-    let start = State {
-        simulation: Simulation::new(vehicles),
-        places: [0; 32],
-    };
-    go_on(site, rows, curves, lens, start, allowance)
+    let mut state = State::new(site);
+    go_on(site, &mut state, allowance);
+    state
 }

@@ -1,13 +1,15 @@
 // Events and their order (events.rs), which is request 4's.
-ghost use Rattle.std.specs.Prelude.{◌≡◌, ◌+◌, ◌<◌, ◌≤◌, [], ◌∷◌, length, take};
+ghost use Rattle.std.specs.Prelude.{◌≡◌, ◌+◌, ◌<◌, ◌≤◌, [], length, slice_get, position, reverse, not};
 ghost use Rattle.charger.specs.Lists.{All};
 ghost use Rattle.charger.specs.Code.Vehicles.{listed};
+ghost use Rattle.engine.specs.Code.Simulation.{InTime};
 ghost use Rattle.engine.specs.Events.{rank, place_of, before, push, Ordered, generate};
-ghost use Rattle.engine.specs.Code.Simulation.{pending, behind_first, event_of, events_of, InTime};
 
+use arrayvec::ArrayVec;
 use charger::vehicle_list::VehicleList;
+use std::marker::Model;
 
-#[derive(Clone, Copy)]
+#[derive(Clone, Copy, PartialEq)]
 pub enum EventType {
     Arrival,
     Renege,
@@ -23,21 +25,22 @@ pub struct Event {
     pub charger: usize,
 }
 
-// The pending events, in the order in which they pop: those from `head` up to `tail`. Those before `head` have been handled.
-// A plan of 64 vehicles has at most 192 events.
-#[derive(Clone, Copy)]
-pub struct EventQueue {
-    pub all: [Event; 192],
-    pub head: usize,
-    pub tail: usize,
+impl Default for Event {
+    fn default() -> Self {
+        Event {
+            time: 0,
+            kind: EventType::Arrival,
+            vehicle: 0,
+            charger: 0,
+        }
+    }
 }
 
 // Where its kind stands among the events of one second.
 fn rank(e: Event) -> u64
     ensures { result ≡ rank e.kind }
 {
-    let kind = e.kind;
-    match kind {
+    match e.kind {
         EventType::Unplug => 0,
         EventType::Arrival => 1,
         EventType::Renege => 2,
@@ -48,8 +51,7 @@ fn rank(e: Event) -> u64
 fn place_in_plan(e: Event) -> usize
     ensures { result ≡ place_of e }
 {
-    let kind = e.kind;
-    match kind {
+    match e.kind {
         EventType::Unplug => e.charger,
         EventType::Arrival => e.vehicle,
         EventType::Renege => e.vehicle,
@@ -57,128 +59,152 @@ fn place_in_plan(e: Event) -> usize
 }
 
 // Whether `a` pops before `b`.
+#[tactic(auto, unfolding(crate::specs::Events::before))]
 fn pops_before(a: Event, b: Event) -> bool
     ensures { result ≡ before a b }
 {
-    if a.time != b.time {
-        return a.time < b.time;
-    }
-    let i = rank(a);
-    let j = rank(b);
-    if i != j {
-        return i < j;
-    }
-    place_in_plan(a) < place_in_plan(b)
+    (a.time, rank(a), place_in_plan(a)) < (b.time, rank(b), place_in_plan(b))
+}
+
+// The pending events, the next to pop last, and how many were handled before them. A plan of 64 vehicles has at most 192 events.
+#[derive(Drop)]
+pub struct EventQueue {
+    items: ArrayVec<Event, 192>,
+    handled: usize,
+}
+
+impl Model for EventQueue {
+    ghost use Rattle.std.specs.Prelude.{◌+◌, ◌≤◌, length, reverse};
+    ghost use Rattle.engine.specs.Code.Events.{Queued};
+
+    ghost Value = { Queued };
+
+    ghost view = { λ q. record { pending = reverse q.items.items; handled = q.handled } };
+
+    ghost invariant = { λ q. q.handled + length q.items.items ≤ 192 };
 }
 
 impl EventQueue {
+    ghost use Rattle.std.specs.Prelude.{◌==◌};
+    ghost use Rattle.engine.specs.Code.Events.{Pops, PopsDue};
+
+    // How many were handled.
+    pub fn handled(&self) -> usize
+        ensures value { result ≡ self.now.handled }
+        ensures bound { result + length self.now.pending ≤ 192 }
+    {
+        self.handled
+    }
+
+    pub fn is_empty(&self) -> bool
+        ensures { result ≡ (length self.now.pending == 0) }
+    {
+        self.items.is_empty()
+    }
+
+    // The events in the order in which they are kept: the next to pop last.
+    pub fn as_slice(&self) -> &[Event]
+        ensures items { self.now.pending ≡ reverse result.now }
+        ensures bound { self.now.handled + length result.now ≤ 192 }
+    {
+        self.items.as_slice()
+    }
+
     // The event that pops first.
-    pub fn first(self) -> Event
-        requires { (self.head < self.tail) × (self.tail ≤ 192) }
-        ensures { pending self ≡ result ∷ pending (behind_first self) }
+    pub fn first(&self) -> Option<Event>
+        ensures { result ≡ slice_get self.now.pending 0 }
     {
-        let all = self.all;
-        let head = self.head;
-        all[head]
+        self.items.last().copied()
     }
 
-    pub fn pushed(self, e: Event) -> Self
-        requires { (self.head ≤ self.tail) × (self.tail < 192) }
-        ensures { (pending result ≡ push e (pending self)) × (result.head ≡ self.head) × (result.tail ≡ self.tail + 1) }
+    // It is popped, and counts as handled.
+    pub fn pop(&mut self) -> Option<Event>
+        ensures { Pops self.old self.new result }
     {
-        let mut q = self;
-        let n = q.tail;
-        let mut at = q.head;
-        while at < n {
-            if pops_before(e, q.all[at]) {
-                break;
-            }
-            at += 1;
-        }
-        let mut j = n;
-        while at < j {
-            q.all[j] = q.all[j - 1];
-            j -= 1;
-        }
-        q.all[at] = e;
-        q.tail = n + 1;
-        q
+        let event = self.items.pop()?;
+        self.handled += 1;
+        Some(event)
     }
-}
 
-// Pending events as rows of numbers: the time, 0 for an arrival and 1 for a renege, and the vehicle.
-
-// Puts a row into the first n rows, which stand in order, behind those that it does not pop before.
-fn insert(rows: &mut [[u64; 3]], n: usize, row: [u64; 3])
-    requires { (n < length rows.old) × Ordered (events_of (take n rows.old)) }
-    ensures { events_of (take (n + 1) rows.new) ≡ push (event_of row) (events_of (take n rows.old)) }
-{
-    let event = event_of(row);
-    let mut j = n;
-    while 0 < j {
-        let other = rows[j - 1];
-        if pops_before(event, event_of(other)) {
-            rows[j] = other;
-            j -= 1;
+    // The event that pops first is popped, if it is due.
+    pub fn pop_due(&mut self, time: u64) -> Option<Event>
+        ensures { PopsDue time self.old self.new result }
+    {
+        if self.first()?.time <= time {
+            self.pop()
         } else {
-            break;
+            None
         }
     }
-    rows[j] = row;
-}
 
-// The event of a row.
-fn event_of(row: [u64; 3]) -> Event
-    ensures { result ≡ event_of row }
-{
-    let mut kind = EventType::Renege;
-    if row[1] == 0 {
-        kind = EventType::Arrival;
-    }
-    Event {
-        time: row[0],
-        kind,
-        vehicle: row[2] as usize,
-        charger: 0,
+    #[tactic(auto, using(crate::proofs::events::Push::push_kept))]
+    pub fn push(&mut self, e: Event)
+        requires { self.old.handled + length self.old.pending < 192 }
+        ensures pending { self.new.pending ≡ push e self.old.pending }
+        ensures handled { self.new.handled ≡ self.old.handled }
+    {
+        let many = self.items.len();
+        let ahead = ahead(self.items.as_slice(), e).unwrap_or(many);
+        self.items.insert(many - ahead, e);
     }
 }
 
-// The events of the first n rows.
-fn events_of(rows: &[[u64; 3]], n: usize) -> [Event; 192]
-    requires { (n ≤ length rows.now) × (n ≤ 192) }
-    ensures { take n result ≡ events_of (take n rows.now) }
+// How many, from the back, pop before an event.
+fn ahead(events: &[Event], e: Event) -> Option<usize>
+    ensures { result ≡ position (before e) (reverse events.now) }
 {
-    let mut all = [Event {
-        time: 0,
-        kind: EventType::Arrival,
-        vehicle: 0,
-        charger: 0,
-    }; 192];
-    let mut i = 0;
-    while i < n {
-        all[i] = event_of(rows[i]);
-        i += 1;
-    }
-    all
+    events.iter().rev().position(|x| pops_before(e, *x))
+}
+
+// How many, from the back, an event pops before.
+fn behind(events: &[Event], e: Event) -> Option<usize>
+    ensures { result ≡ position (λ x. not (before e x)) (reverse events.now) }
+{
+    events.iter().rev().position(|x| !pops_before(e, *x))
+}
+
+// Puts an event among those that stand in order.
+#[tactic(auto, using(crate::proofs::events::Push::push_back))]
+fn put(events: &mut ArrayVec<Event, 192>, e: Event)
+    requires room { length events.old.items < 192 }
+    requires order { Ordered events.old.items }
+    ensures { events.new.items ≡ push e events.old.items }
+{
+    let many = events.len();
+    let behind = behind(events.as_slice(), e).unwrap_or(many);
+    events.insert(many - behind, e);
 }
 
 // The arrival and the renege of each vehicle, pushed in plan order.
-pub fn generate_arrival_events(vehicles: VehicleList) -> EventQueue
-    requires { (vehicles.len ≤ 64) × All InTime (listed vehicles) }
-    ensures { (pending result ≡ generate 0 (listed vehicles) []) × (result.head ≡ 0) × (result.tail ≤ 128) }
+pub fn generate_arrival_events(vehicles: &VehicleList) -> EventQueue
+    requires { All InTime (listed vehicles.now) }
+    ensures pending { result.pending ≡ generate 0 (listed vehicles.now) [] }
+    ensures handled { result.handled ≡ 0 }
 {
-    let mut rows = [[0; 3]; 128];
-    let n = vehicles.len;
-    let mut v = 0;
-    while v < n {
-        let x = vehicles.all[v];
-        insert(&mut rows, 2 * v, [x.arrival, 0, v as u64]);
-        insert(&mut rows, 2 * v + 1, [x.arrival + x.wait, 1, v as u64]);
-        v += 1;
+    let mut events = ArrayVec::<Event, 192>::new();
+    for (v, x) in vehicles.vehicles.iter().enumerate() {
+        put(
+            &mut events,
+            Event {
+                time: x.arrival,
+                kind: EventType::Arrival,
+                vehicle: v,
+                charger: 0,
+            },
+        );
+        put(
+            &mut events,
+            Event {
+                time: x.arrival + x.wait,
+                kind: EventType::Renege,
+                vehicle: v,
+                charger: 0,
+            },
+        );
     }
+    events.reverse();
     EventQueue {
-        all: events_of(&rows, 2 * n),
-        head: 0,
-        tail: 2 * n,
+        items: events,
+        handled: 0,
     }
 }

@@ -6,15 +6,15 @@ use Prim.Native.Nat.{ℕ, zero, suc, ◌+◌, ◌*◌, ◌/◌, ◌^◌, ◌≤�
 use native.Mathlib.Omega.{arith}
 use lib.ListN.{length, take, drop, length-append}
 use lib.Seq.{take_at}
+use Rattle.charger.specs.Lists.{All}
 use Rattle.plan.specs.Bytes.{le_at, bytes, fields}
 use Rattle.plan.specs.Blocks.{sealed, passes, block}
-use Rattle.files.specs.Code.Writing.{FitBelow}
+use Rattle.files.specs.BookSession.{Fits}
 use Rattle.files.specs.SessionBlocks.{slot, session_block, session_blocks, sessions_from}
 use Rattle.files.specs.Book.{header_block, book_bytes, session_count, book_offset, sessions_in, ReadBack, written}
 use Rattle.files.specs.declared.book_session.BookSession.{BookSession}
 use Rattle.plan.proofs.bytes.Laws.{read_back, next_place, Begins}
 use Rattle.plan.proofs.blocks.Laws.{sealed-passes, length-sealed}
-use Rattle.files.proofs.book_session.Laws.{all_fit}
 use Rattle.files.proofs.session_blocks.Laws.{length_session_block, length_session_blocks, session_block-passes, block_at, session_at_lem, sessions_back}
 
 pub header-length : (count engine ended used : ℕ) → length (header_block count engine ended used) ≡ 512
@@ -35,7 +35,7 @@ module _ (engine ended used : ℕ) (xs : List BookSession) (rest : List ℕ) whe
   pub book_session_at : (k : ℕ) → k < length xs → Begins (drop (book_offset k) (book_bytes engine ended used xs ++ rest)) (slot xs k)
   book_session_at k h = rw parts (session_at_lem (header_block (length xs) engine ended used) 512 (header-length (length xs) engine ended used) 2 xs rest k h)
 
-  book_sessions_back : FitBelow (length xs) xs → sessions_from (book_bytes engine ended used xs ++ rest) 512 0 (length xs) ≡ xs
+  book_sessions_back : All Fits xs → sessions_from (book_bytes engine ended used xs ++ rest) 512 0 (length xs) ≡ xs
   book_sessions_back fits =
       rw parts (sessions_back (header_block (length xs) engine ended used) 512 (header-length (length xs) engine ended used) 2 xs rest fits 0 (length xs) (omega arith))
 
@@ -86,7 +86,7 @@ count-written engine ended used xs buffer h = count_back engine ended used xs (d
 
 -- THE BOOK READ BACK, of any buffer that it was written into
 pub book_back : (engine ended used : ℕ) (xs : List BookSession) (buffer : List ℕ) → length xs ≤ 64 → engine < 2 ^ 8 → ended < 2 ^ 8 → used < 2 ^ 64
-    → FitBelow (length xs) xs → ReadBack engine ended used xs (written (book_bytes engine ended used xs) buffer)
+    → All Fits xs → ReadBack engine ended used xs (written (book_bytes engine ended used xs) buffer)
 unfolding sessions_in written
 book_back engine ended used xs buffer n e d u fits =
     let rest : List ℕ = drop (length (book_bytes engine ended used xs)) buffer in
@@ -98,6 +98,6 @@ book_back engine ended used xs buffer n e d u fits =
       ended_byte = ended_back engine ended used xs rest (omega arith);
       used_units = used_back engine ended used xs rest (omega arith);
       sessions = rw count (book_sessions_back engine ended used xs rest fits);
-      whole = all_fit xs fits;
+      whole = fits;
       checks = book_passes engine ended used xs buffer;
     }

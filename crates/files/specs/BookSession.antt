@@ -1,10 +1,9 @@
 -- Rules. What the book says of a session. Its floats go by their bits.
-use Rattle.std.specs.Prelude.{ℕ, ◌^◌, ◌<◌, Bool, cond, List, map, leb, ltb, eqb, Float}
+use Rattle.std.specs.Prelude.{ℕ, ◌^◌, ◌<◌, Bool, cond, List, Option, map, leb, ltb, eqb, Float}
+use Rattle.std.specs.Option.{unwrap_or}
 use Rattle.std.specs.Float.{binary64}
 use Rattle.std.specs.Float.Ieee.{to_bits}
 use Rattle.charger.specs.Vehicle.{connector_of, vehicle_at}
-use Rattle.charger.specs.declared.connector.Common.{Common}
-use Rattle.charger.specs.declared.connector.Common.TheVariants.{Connector, Nothing}
 use Rattle.charger.specs.declared.vehicle.Vehicle.{Vehicle}
 use Rattle.engine.specs.Plan.{row_at}
 use Rattle.engine.specs.Demand.{outcome_number}
@@ -35,9 +34,8 @@ abbrev pub bits : Float → ℕ
 bits x = to_bits binary64 x
 
 -- the code of a connector
-abbrev pub code_of : Common → ℕ
-code_of (Connector k) = k
-code_of Nothing = 0
+abbrev pub code_of : Option ℕ → ℕ
+code_of k = unwrap_or k 0
 
 -- a 32-bit number of a vehicle's block, its id at 0 or its profile's id at 4; zero past the last vehicle
 unfoldable pub vehicle_number : List ℕ → ℕ → ℕ → ℕ

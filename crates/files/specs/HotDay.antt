@@ -1,5 +1,5 @@
 -- Rules. Request 13, hot-day rating, as the calls promise it: of a plan that is fine, and of the book of its run by events.
-use Rattle.std.specs.Prelude.{◌≡◌, true, List, ℕ}
+use Rattle.std.specs.Prelude.{◌≡◌, true, List, ℕ, Result, Ok, Err}
 use Rattle.charger.specs.Lists.{All}
 use Rattle.engine.specs.Plan.{VehiclePlace, ChargerPlace, fits, output}
 use Rattle.engine.specs.HotDay.{HotDay}
@@ -8,16 +8,15 @@ use Rattle.files.specs.BookSession.{bits, vehicle_number, charger_id}
 use Rattle.files.specs.Book.{sessions_in}
 use Rattle.files.specs.Demand.{OfRun}
 use Rattle.files.specs.declared.book_session.BookSession.{BookSession}
-use Rattle.plan.specs.declared.answer.Answer.{Answer}
-use Rattle.plan.specs.declared.answer.Answer.TheVariants.{Fine, Refused}
-use Rattle.plan.specs.declared.answer.RunAnswer.{RunAnswer}
+use Rattle.plan.specs.declared.answer.Refusal.{Refusal}
+use Rattle.plan.specs.declared.answer.Totals.{Totals}
 
 -- the law holds of what charging takes at every pair that fits
-abbrev pub HotDayOfPlan : List ℕ → Answer → Type 0
-HotDayOfPlan plan Fine = HotDay (read_plan plan)
-HotDayOfPlan plan (Refused x) = Unit {0}
+abbrev pub HotDayOfPlan : List ℕ → Result (Unit {0}) Refusal → Type 0
+HotDayOfPlan plan (Ok u) = HotDay (read_plan plan)
+HotDayOfPlan plan (Err x) = Unit {0}
 
-abbrev pub HotDayOfRun : List ℕ → RunAnswer → Type 0
+abbrev pub HotDayOfRun : List ℕ → Result Totals Refusal → Type 0
 HotDayOfRun plan = OfRun (λ t. HotDay (read_plan plan))
 
 -- a session of the book: the vehicle and the charger of its ids fit, and its duration, peak and energy have the bits of what charging takes there
@@ -32,5 +31,5 @@ pub record ByRating (plan : List ℕ) (x : BookSession) : Type 0 where
   pub energy : x.energy ≡ bits (output (read_plan plan) vehicle charger).energy.0
 
 -- by events every session of outcome 1 in the book is such a one
-abbrev pub BookByRating : List ℕ → ℕ → List ℕ → RunAnswer → Type 0
+abbrev pub BookByRating : List ℕ → ℕ → List ℕ → Result Totals Refusal → Type 0
 BookByRating plan engine book = OfRun (λ t. engine ≡ 0 → All (λ x. x.outcome ≡ 1 → ByRating plan x) (sessions_in book))

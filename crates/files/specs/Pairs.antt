@@ -1,5 +1,5 @@
 -- Rules. The table's row 12: a vehicle and a charger that fit, and the charge duration is not within 0 to 604,800 s.
-use Rattle.std.specs.Prelude.{ℕ, Bool, cond, not, ◌&&◌, List, ltb, length}
+use Rattle.std.specs.Prelude.{ℕ, Bool, cond, not, ◌&&◌, List, ltb, length, Option, Some, None}
 use Rattle.curve.specs.F64.{within}
 use Rattle.curve.specs.Curve.{integrate_over}
 use Rattle.curve.specs.declared.points.Point.{Point}
@@ -10,8 +10,6 @@ use Rattle.charger.specs.declared.charger.Charger.{Charger}
 use Rattle.charger.specs.declared.vehicle.Vehicle.{Vehicle}
 use Rattle.engine.specs.Plan.{Plan, charger_at, row_at, vehicle}
 use Rattle.plan.specs.Search.{first_index}
-use Rattle.files.specs.declared.pairs.FailingPair.{FailingPair}
-use Rattle.files.specs.declared.pairs.FailingPair.TheVariants.{Nothing, Pair}
 
 -- the vehicle, whose profile has the curve and the battery, fits the charger, and cannot be charged there in time
 abbrev pub fails : List Point → Kwh → Vehicle → Charger → List Bool → Bool
@@ -34,7 +32,7 @@ module _ (p : Plan) where
   fails_somewhere v = ltb (failing_charger v) (length p.chargers)
 
   -- the first vehicle that fails somewhere, with the first charger that it fails at
-  unfoldable pub failing_pair : FailingPair
+  unfoldable pub failing_pair : Option (ℕ × ℕ)
   failing_pair =
       let v : ℕ = first_index fails_somewhere 0 (length p.vehicles) in
-      cond (ltb v (length p.vehicles)) (Pair v (failing_charger v)) Nothing
+      cond (ltb v (length p.vehicles)) (Some (v, (failing_charger v))) None

@@ -1,22 +1,22 @@
 // The book: a header block and then five sessions a block, in the order pushed.
-ghost use Rattle.std.specs.Prelude.{◌≡◌, ◌≤◌, length, take};
+ghost use Rattle.std.specs.Prelude.{◌≡◌, ◌≤◌, length};
 ghost use Rattle.std.proofs.lemmas.List.Edits.{sets};
-ghost use Rattle.engine.specs.Code.Simulation.{booked};
-ghost use Rattle.files.specs.Code.Writing.{EmptyFrom, Writable};
+ghost use Rattle.charger.specs.Lists.{tick};
+ghost use Rattle.files.specs.Code.Writing.{Writable};
 ghost use Rattle.files.specs.BookSession.{book_sessions};
 ghost use Rattle.files.specs.Book.{header_block, book_bytes, written, ReadBack};
 
 use crate::book_session::{BookSession, entries};
 use crate::session_blocks::put_session_blocks;
-use charger::vehicle_list::VehicleList;
-use engine::session::Sessions;
+use engine::session::Session;
+use engine::site::Site;
 use plan::blocks::seal;
 use plan::bytes::put_fields;
 
 // Stores the header's block into s.
-fn put_header(s: &mut [u8], count: u64, engine: u8, ended: u8, used: u64)
+fn put_header(s: &mut [u8], count: u64, engine: u8, ended: bool, used: u64)
     requires { 512 ≤ length s.old }
-    ensures { s.new ≡ sets s.old 0 (header_block count engine ended used) }
+    ensures { s.new ≡ sets s.old 0 (header_block count engine (tick ended) used) }
 {
     let f: [u64; 18] = [
         1,
@@ -30,9 +30,9 @@ fn put_header(s: &mut [u8], count: u64, engine: u8, ended: u8, used: u64)
         2,
         count,
         1,
-        engine as u64,
+        u64::from(engine),
         1,
-        ended as u64,
+        u64::from(ended),
         8,
         used,
         492,
@@ -42,37 +42,30 @@ fn put_header(s: &mut [u8], count: u64, engine: u8, ended: u8, used: u64)
     seal(s, 0, 1);
 }
 
-// Stores the book of the first n sessions, past which there is none; the bytes past its last block stay.
-fn put_book(
-    book: &mut [u8],
-    sessions: [BookSession; 65],
-    n: usize,
-    engine: u8,
-    ended: u8,
-    used: u64,
-)
-    requires { (n ≤ 64) × ((7168 ≤ length book.old) × EmptyFrom n sessions) }
-    ensures { book.new ≡ written (book_bytes engine ended used (take n sessions)) book.old }
+// Stores the book of some sessions; the bytes past its last block stay.
+fn put_book(book: &mut [u8], sessions: &[BookSession], engine: u8, ended: bool, used: u64)
+    requires few { length sessions.now ≤ 64 }
+    requires room { 7168 ≤ length book.old }
+    ensures { book.new ≡ written (book_bytes engine (tick ended) used sessions.now) book.old }
 {
-    put_header(book, n as u64, engine, ended, used);
-    put_session_blocks(book, 512, 2, sessions, n);
+    put_header(book, sessions.len() as u64, engine, ended, used);
+    put_session_blocks(book, 512, 2, sessions);
 }
 
 // Writes the book of a run; the bytes past its last block stay.
 pub fn write_book(
     book: &mut [u8],
     plan: &[u8],
-    vehicles: VehicleList,
-    rows: [[bool; 5]; 32],
-    sessions: Sessions,
+    site: &Site,
+    sessions: &[Session],
     engine: u8,
-    ended: u8,
+    ended: bool,
     used: u64,
 )
-    requires { Writable plan.now vehicles rows sessions book.old }
-    ensures book { book.new ≡ written (book_bytes engine ended used (book_sessions plan.now (booked sessions))) book.old }
-    ensures back { ReadBack engine ended used (book_sessions plan.now (booked sessions)) book.new }
+    requires { Writable plan.now site.now sessions.now book.old }
+    ensures book { book.new ≡ written (book_bytes engine (tick ended) used (book_sessions plan.now sessions.now)) book.old }
+    ensures back { ReadBack engine (tick ended) used (book_sessions plan.now sessions.now) book.new }
 {
-    let all = entries(plan, vehicles, rows, sessions);
-    put_book(book, all, sessions.len, engine, ended, used);
+    let all = entries(plan, site, sessions);
+    put_book(book, all.as_slice(), engine, ended, used);
 }

@@ -1,25 +1,24 @@
 // What the book says of a session.
-ghost use Rattle.std.specs.Prelude.{◌≡◌, map, ◌+◌, ◌≤◌, take};
+ghost use Rattle.std.specs.Prelude.{◌≡◌, map, ◌+◌, ◌≤◌, length};
+ghost use Rattle.charger.specs.Lists.{All};
 ghost use Rattle.charger.specs.Vehicle.{connector_of};
 ghost use Rattle.charger.specs.Code.Vehicles.{listed};
-ghost use Rattle.engine.specs.Code.Simulation.{booked};
-ghost use Rattle.plan.specs.Places.{charger_count};
+ghost use Rattle.engine.specs.Code.Simulation.{connectors_of};
 ghost use Rattle.files.specs.Code.Reading.{Counted};
 ghost use Rattle.engine.specs.Demand.{outcome_number};
-ghost use Rattle.files.specs.BookSession.{plugged as BookSession·plugged, charged as BookSession·charged, kept as BookSession·kept, bits, code_of, vehicle_number, charger_id, entry as BookSession·entry, no_session};
-ghost use Rattle.files.specs.Code.Writing.{EmptyFrom, FitBelow};
+ghost use Rattle.files.specs.BookSession.{plugged as BookSession·plugged, charged as BookSession·charged, kept as BookSession·kept, bits, code_of, vehicle_number, charger_id, entry as BookSession·entry, no_session, Fits};
 
-use charger::connector::Common;
+use arrayvec::ArrayVec;
 use charger::vehicle::{Vehicle, connector_of};
-use charger::vehicle_list::VehicleList;
 use curve::float::to_bits;
-use engine::session::{Outcome, Session, Sessions};
-use engine::site::row_of;
+use engine::session::{Outcome, Session};
+use engine::site::Site;
 use plan::bytes::u32_at;
 use plan::places::{Kind, block_of, charger_count, vehicle_count};
 
-// A session as the book holds it, floats by their bits; what is missing by its outcome is 0.
-#[derive(Clone, Copy)]
+// A session as the book holds it, floats by their bits; what is missing by its outcome is 0. A book that is read may hold any byte for an
+// outcome, so it stands by its number.
+#[derive(Clone, Copy, Default)]
 pub struct BookSession {
     pub vehicle_id: u32,
     pub profile_id: u32,
@@ -43,12 +42,7 @@ pub struct BookSession {
 pub fn outcome_number(outcome: Outcome) -> u8
     ensures { result ≡ outcome_number outcome }
 {
-    match outcome {
-        Outcome::Open => 0,
-        Outcome::Charged => 1,
-        Outcome::Reneged => 2,
-        Outcome::Balked => 3,
-    }
+    outcome as u8
 }
 
 // A session of that outcome's number has a charger.
@@ -80,6 +74,7 @@ fn kept_bits(there: bool, x: f64) -> u64
 }
 
 // A number of a vehicle's block: its id at 0, its profile's id at 4.
+#[tactic(auto, unfolding(crate::specs::BookSession::vehicle_number))]
 fn vehicle_number(plan: &[u8], v: usize, at: usize) -> u32
     requires { Counted plan.now × (at + 4 ≤ 512) }
     ensures { result ≡ vehicle_number plan.now v at }
@@ -91,6 +86,7 @@ fn vehicle_number(plan: &[u8], v: usize, at: usize) -> u32
 }
 
 // The id of the charger that the session has.
+#[tactic(auto, unfolding(crate::specs::BookSession::charger_id))]
 fn charger_id(plan: &[u8], there: bool, c: usize) -> u32
     requires { Counted plan.now }
     ensures { result ≡ BookSession·kept there (charger_id plan.now c) }
@@ -111,29 +107,24 @@ fn connector_code(there: bool, row: [bool; 5], vehicle: Vehicle) -> u8
     if !there {
         return 0;
     }
-    match connector_of(row, vehicle) {
-        Common::Connector(code) => code,
-        Common::Nothing => 0,
-    }
+    connector_of(row, vehicle).unwrap_or(0)
 }
 
 // What the book says of a session.
-fn entry(plan: &[u8], vehicles: VehicleList, rows: [[bool; 5]; 32], x: Session) -> BookSession
+fn entry(plan: &[u8], site: &Site, x: &Session) -> BookSession
     requires { Counted plan.now }
-    ensures { result ≡ BookSession·entry plan.now (listed vehicles) (take (charger_count plan.now) rows) x }
+    ensures { result ≡ BookSession·entry plan.now (listed site.now.vehicles) (connectors_of site.now) x.now }
 {
-    let came_to = x.outcome;
-    let outcome = outcome_number(came_to);
+    let outcome = outcome_number(x.outcome);
     let there = plugged(outcome);
     let done = charged(outcome);
-    let vehicle = vehicles.get_vehicle(x.vehicle);
-    let row = row_of(rows, charger_count(plan), x.charger);
+    let vehicle = site.vehicles.get_vehicle(x.vehicle);
     BookSession {
         vehicle_id: vehicle_number(plan, x.vehicle, 0),
         profile_id: vehicle_number(plan, x.vehicle, 4),
         charger_id: charger_id(plan, there, x.charger),
-        connector: connector_code(there, row, vehicle),
-        outcome: outcome,
+        connector: connector_code(there, site.row(x.charger), vehicle),
+        outcome,
         fleet: vehicle.fleet,
         arrival: vehicle.arrival,
         plugin: kept(there, x.plugin),
@@ -148,48 +139,23 @@ fn entry(plan: &[u8], vehicles: VehicleList, rows: [[bool; 5]; 32], x: Session) 
     }
 }
 
+#[tactic(auto, unfolding(crate::specs::BookSession::no_session))]
 pub fn no_session() -> BookSession
     ensures { result ≡ no_session }
 {
-    BookSession {
-        vehicle_id: 0,
-        profile_id: 0,
-        charger_id: 0,
-        connector: 0,
-        outcome: 0,
-        fleet: 0,
-        arrival: 0,
-        plugin: 0,
-        unplug: 0,
-        wait: 0,
-        duration: 0,
-        idle: 0,
-        peak: 0,
-        energy: 0,
-        start: 0,
-        end: 0,
-    }
+    BookSession::default()
 }
 
-// What the book says of all sessions: as many of the array's first as there are sessions, and none past them.
-// 65 are 13 blocks of five.
-pub fn entries(
-    plan: &[u8],
-    vehicles: VehicleList,
-    rows: [[bool; 5]; 32],
-    sessions: Sessions,
-) -> [BookSession; 65]
-    requires { Counted plan.now × (sessions.len ≤ 64) }
-    ensures { (take sessions.len result ≡ map (BookSession·entry plan.now (listed vehicles) (take (charger_count plan.now) rows)) (booked sessions)) × (EmptyFrom sessions.len result × FitBelow sessions.len result) }
+// What the book says of all sessions.
+pub fn entries(plan: &[u8], site: &Site, sessions: &[Session]) -> ArrayVec<BookSession, 64>
+    requires counted { Counted plan.now }
+    requires few { length sessions.now ≤ 64 }
+    ensures entries { result.items ≡ map (BookSession·entry plan.now (listed site.now.vehicles) (connectors_of site.now)) sessions.now }
+    ensures fit { All Fits result.items }
 {
-    let n = sessions.len;
-    let xs = sessions.all;
-    let none = no_session();
-    let mut all = [none; 65];
-    let mut i = 0;
-    while i < n {
-        all[i] = entry(plan, vehicles, rows, xs[i]);
-        i += 1;
+    let mut all = ArrayVec::new();
+    for x in sessions {
+        all.push(entry(plan, site, x));
     }
     all
 }

@@ -1,16 +1,27 @@
 // Blocks of sessions, five a block, from any place of a file on.
-ghost use Rattle.std.specs.Prelude.{◌≡◌, ◌++◌, ◌+◌, ◌*◌, ◌/◌, ◌≤◌, length, take};
+ghost use Rattle.std.specs.Prelude.{◌≡◌, ◌++◌, ◌+◌, ◌*◌, ◌/◌, ◌≤◌, length, get_or};
 ghost use Rattle.std.proofs.lemmas.List.Edits.{sets};
 ghost use Rattle.plan.specs.Bytes.{bytes, pieces};
 ghost use Rattle.plan.specs.Blocks.{sealed};
-ghost use Rattle.files.specs.Code.Writing.{EmptyFrom};
+ghost use Rattle.files.specs.BookSession.{no_session};
 ghost use Rattle.files.specs.SessionBlocks.{session_bytes, slot, session_blocks};
 
-use crate::book_session::BookSession;
+use crate::book_session::{BookSession, no_session};
 use plan::blocks::seal;
 use plan::bytes::{put, put_fields};
 
+// The session at a place; past the last there is none.
+fn session_at(sessions: &[BookSession], i: usize) -> BookSession
+    ensures { result ≡ get_or sessions.now i no_session }
+{
+    match sessions.get(i) {
+        Some(x) => *x,
+        None => no_session(),
+    }
+}
+
 // Stores the 96 bytes of a session into s from at.
+#[tactic(auto, unfolding(crate::specs::SessionBlocks::session_bytes, plan::specs::Bytes::fields, plan::specs::Bytes::bytes))]
 fn put_session(s: &mut [u8], at: usize, x: BookSession)
     requires { at + 96 ≤ length s.old }
     ensures { s.new ≡ sets s.old at (session_bytes x) }
@@ -52,51 +63,37 @@ fn put_session(s: &mut [u8], at: usize, x: BookSession)
     put_fields(s, at, &f);
 }
 
-// Stores five sessions, one after the other, into s from at.
-fn put_slots(s: &mut [u8], at: usize, five: [BookSession; 5])
+// Stores the first five of some sessions, one after the other, into s from at; zero bytes for each that is not there. A loop for records of
+// every kind would need a closure that promises what it leaves of a lent slice.
+fn put_slots(s: &mut [u8], at: usize, few: &[BookSession])
     requires { at + 480 ≤ length s.old }
-    ensures { s.new ≡ sets s.old at (pieces (slot five) 0 5) }
+    ensures { s.new ≡ sets s.old at (pieces (slot few.now) 0 5) }
 {
-    let mut i: usize = 0;
-    while i < 5 {
-        put_session(s, at + 96 * i, five[i]);
-        i += 1;
+    for i in 0..5 {
+        put_session(s, at + 96 * i, session_at(few, i));
     }
 }
 
-// Stores five sessions as a block, the place-th of its file, into s from at.
-fn put_session_block(s: &mut [u8], at: usize, place: u32, five: [BookSession; 5])
+// Stores them as a block, the place-th of its file, into s from at.
+#[tactic(auto, using(crate::proofs::session_blocks::Laws::put_block))]
+fn put_session_block(s: &mut [u8], at: usize, place: u32, few: &[BookSession])
     requires { at + 512 ≤ length s.old }
-    ensures { s.new ≡ sets s.old at (sealed place (pieces (slot five) 0 5 ++ bytes 28 0)) }
+    ensures { s.new ≡ sets s.old at (sealed place (pieces (slot few.now) 0 5 ++ bytes 28 0)) }
 {
-    put_slots(s, at, five);
+    put_slots(s, at, few);
     put(s, at + 480, 28, 0);
     seal(s, at, place);
 }
 
-// Stores the blocks of the first n sessions, past which there is none, into s from at; the first of them is the place-th of its file.
-pub fn put_session_blocks(
-    s: &mut [u8],
-    at: usize,
-    place: u32,
-    sessions: [BookSession; 65],
-    n: usize,
-)
-    requires { (n ≤ 64) × ((place ≤ 65536) × ((at + 512 * ((n + 4) / 5) ≤ length s.old) × EmptyFrom n sessions)) }
-    ensures { s.new ≡ sets s.old at (session_blocks place (take n sessions)) }
+// Stores the blocks of some sessions into s from at; the first of them is the place-th of its file.
+pub fn put_session_blocks(s: &mut [u8], at: usize, place: u32, sessions: &[BookSession])
+    requires few { length sessions.now ≤ 64 }
+    requires place { place ≤ 65536 }
+    requires room { at + 512 * ((length sessions.now + 4) / 5) ≤ length s.old }
+    ensures { s.new ≡ sets s.old at (session_blocks place sessions.now) }
 {
-    let blocks = (n + 4) / 5;
-    let mut j: usize = 0;
-    while j < blocks {
-        let k = 5 * j;
-        let five = [
-            sessions[k],
-            sessions[k + 1],
-            sessions[k + 2],
-            sessions[k + 3],
-            sessions[k + 4],
-        ];
-        put_session_block(s, at + 512 * j, place + j as u32, five);
-        j += 1;
+    let blocks = (sessions.len() + 4) / 5;
+    for j in 0..blocks {
+        put_session_block(s, at + 512 * j, place + j as u32, &sessions[5 * j..]);
     }
 }

@@ -1,10 +1,10 @@
 -- Laws of a loop over the indices from some k up to, not including, n, and of a list that such a loop fills. Assumes nothing.
-use Rattle.std.proofs.Common.{◌≡◌, ℕ, zero, suc, ◌+◌, ◌-◌, ◌<◌, ◌≤◌, Bool, true, false, cond, ◌&&◌, List, [], ◌∷◌, ◌++◌, map, length, get_or, take, set, sym, refl, ap, ◌∙◌, inl, inr, add-zero, eq-or-lt_of_le, zero-add, add-one, arith, get_or-take}
+use Rattle.std.proofs.Common.{◌≡◌, ℕ, zero, suc, ◌+◌, ◌-◌, ◌<◌, ◌≤◌, Bool, true, false, cond, ◌&&◌, Some, None, List, [], ◌∷◌, ◌++◌, map, length, get_or, take, set, sym, refl, ap, ◌∙◌, inl, inr, add-zero, eq-or-lt_of_le, zero-add, add-one, le-ltb, lt-ltb, ltb, ltb-true, arith, get_or-take}
 use mathlib.Core.Bool.{and_assoc}
 use Rattle.charger.specs.Lists.{All, none, also}
 use Rattle.charger.proofs.Lists.{by_cond, and_true}
 use Rattle.charger.proofs.waiting_queue.Part.{take-set}
-use Rattle.plan.specs.Search.{first_index, every, and_hold, holds, each}
+use Rattle.plan.specs.Search.{first_index, short_of, every, and_hold, holds, each}
 
 module _ (f : ℕ → Bool) (k n : ℕ) where
   left : k < n → n - k ≡ suc (n - suc k)
@@ -24,6 +24,14 @@ module _ (f : ℕ → Bool) (k n : ℕ) where
   pub first_none : n ≤ k → first_index f k (n - k) ≡ k
   unfolding first_index
   first_none h = let e : n - k ≡ 0 = omega arith in rw e
+
+  -- and what a search for it returns: the index that is found
+  pub short_found : {t : ℕ} → k < n → f k ≡ true → first_index f k (n - k) ≡ t → Some k ≡ short_of t n
+  short_found h e p = rw (← p, first_found h e, lt-ltb k n h)
+
+  -- or none
+  pub short_none : {t : ℕ} → n ≤ k → first_index f k (n - k) ≡ t → None ≡ short_of t n
+  short_none h p = rw (← p, first_none h, le-ltb k n h)
 
   pub every_again : {t : Bool} → k < n → f k ≡ true → every f k (n - k) ≡ t → every f (k + 1) (n - (k + 1)) ≡ t
   unfolding every
@@ -45,6 +53,22 @@ module _ (f : ℕ → Bool) (k n : ℕ) where
   pub every_known : {t : Bool} (known : Bool) → n ≤ k → (known && every f k (n - k)) ≡ t → known ≡ t
   every_known true h p = sym (every_end h) ∙ p
   every_known false h p = p
+
+-- ---- an index that is short of an end
+
+pub short_some : (k end i : ℕ) → short_of k end ≡ Some i → (i ≡ k) × (i < end)
+short_some k end i e = go (ltb k end) (ltb-true k end) e
+  where
+    go : (t : Bool) → (t ≡ true → k < end) → cond t (Some k) None ≡ Some i → (i ≡ k) × (i < end)
+    go true h e = let same : i ≡ k = cc in (same, omega (arith, h refl))
+    go false h e = cc
+
+pub short_past : (k end : ℕ) → short_of k end ≡ None → ltb k end ≡ false
+short_past k end e = go (ltb k end) e
+  where
+    go : (t : Bool) → cond t (Some k) None ≡ None → t ≡ false
+    go true e = cc
+    go false e = refl
 
 -- ---- tests that all hold
 
@@ -158,6 +182,10 @@ module _ {A : Type 0} (f : ℕ → A) where
   -- one store more
   pub fill_step : (a : List A) (i : ℕ) (x : A) → i < length a → take i a ≡ each f 0 i → x ≡ f i → take (i + 1) (set a i x) ≡ each f 0 (i + 1)
   fill_step a i x h e p = take-set a i x h ∙ rw (e, p, add-one, each_suc 0 i, zero-add)
+
+  -- one push more
+  pub push_step : (xs : List A) (i : ℕ) (x : A) → xs ≡ each f 0 i → x ≡ f i → xs ++ (x ∷ []) ≡ each f 0 (i + 1)
+  push_step xs i x e p = rw (e, p, add-one, each_suc 0 i, zero-add)
 
   -- a member of what is filled
   pub fill_at : (a : List A) (n i : ℕ) (d : A) → take n a ≡ each f 0 n → i < n → get_or a i d ≡ f i

@@ -1,14 +1,11 @@
 -- Rules. The paper's number and places of each answer, and its eleven result numbers.
-use Rattle.std.specs.Prelude.{ℕ, List, [], ◌∷◌, replicate}
+use Rattle.std.specs.Prelude.{ℕ, Result, Ok, Err, List, [], ◌∷◌, replicate}
 use Rattle.charger.specs.Lists.{tick}
 use Rattle.plan.specs.declared.answer.Rule.{Rule}
 use Rattle.plan.specs.declared.answer.Rule.TheVariants.{Length, Check, Header, Field, NoPoint, EqualSoc, UsedId, NoProfile}
 use Rattle.plan.specs.declared.answer.Refusal.{Refusal}
+use Rattle.plan.specs.declared.answer.Totals.{Totals}
 use Rattle.plan.specs.declared.answer.Refusal.TheVariants.{EngineAbove, AllowanceAbove, BookUnder, Broken, CannotCharge, DumpUnder, OtherDump, BookDamaged, BookAgainstRules, VehiclesFull, NotLater}
-use Rattle.plan.specs.declared.answer.Answer.{Answer}
-use Rattle.plan.specs.declared.answer.Answer.TheVariants.{Fine, Refused}
-use Rattle.plan.specs.declared.answer.RunAnswer.{RunAnswer}
-use Rattle.plan.specs.declared.answer.RunAnswer.TheVariants.{Refused as RunRefused, Stopped}
 
 -- ---- the number and places of each refusal
 
@@ -71,11 +68,11 @@ abbrev pub refusal_numbers : Refusal → List ℕ
 refusal_numbers x = refused (number x) (place x) (other_place x)
 
 -- a check of a plan that is fine gives zeros
-abbrev pub check_numbers : Answer → List ℕ
-check_numbers Fine = replicate 11 0
-check_numbers (Refused x) = refusal_numbers x
+abbrev pub check_numbers : Result (Unit {0}) Refusal → List ℕ
+check_numbers (Ok u) = replicate 11 0
+check_numbers (Err x) = refusal_numbers x
 
-abbrev pub numbers : RunAnswer → List ℕ
-numbers (RunRefused x) = refusal_numbers x
-numbers (Stopped t) =
+abbrev pub numbers : Result Totals Refusal → List ℕ
+numbers (Ok t) =
     0 ∷ 0 ∷ 0 ∷ t.used ∷ tick t.ended ∷ t.yet_to_arrive ∷ t.queued ∷ t.still_open ∷ t.charged ∷ t.reneged ∷ t.balked ∷ []
+numbers (Err x) = refusal_numbers x

@@ -1,5 +1,5 @@
 -- Rules. What a check of a plan's blocks answers: the table's rows 4 to 11.
-use Rattle.std.specs.Prelude.{ℕ, ◌+◌, ◌-◌, ◌*◌, ◌/◌, Bool, false, cond, not, ◌&&◌, List, [], ◌∷◌, length, ◌==◌, nat_eq, nat_le, nat_lt}
+use Rattle.std.specs.Prelude.{ℕ, ◌+◌, ◌-◌, ◌*◌, ◌/◌, Bool, false, cond, not, ◌&&◌, Result, Ok, Err, List, [], ◌∷◌, length, ◌==◌, nat_eq, nat_le, nat_lt}
 use Rattle.std.specs.Float.Ieee.{eq}
 use Rattle.plan.specs.Bytes.{le_at}
 use Rattle.plan.specs.Blocks.{passes, block, whole_blocks}
@@ -10,9 +10,8 @@ use Rattle.plan.specs.declared.answer.Rule.{Rule}
 use Rattle.plan.specs.declared.answer.Rule.TheVariants.{Length, Check, Header, Field, NoPoint, EqualSoc, UsedId, NoProfile}
 use Rattle.plan.specs.declared.places.Kind.{Kind}
 use Rattle.plan.specs.declared.places.Kind.TheVariants.{Header as HeaderBlock, Profile, Charger, Vehicle}
+use Rattle.plan.specs.declared.answer.Refusal.{Refusal}
 use Rattle.plan.specs.declared.answer.Refusal.TheVariants.{Broken}
-use Rattle.plan.specs.declared.answer.Answer.{Answer}
-use Rattle.plan.specs.declared.answer.Answer.TheVariants.{Fine, Refused}
 
 -- ---- ids
 
@@ -71,13 +70,13 @@ abbrev pub rules : List Rule
 rules = Check ∷ Header ∷ Field ∷ NoPoint ∷ EqualSoc ∷ UsedId ∷ NoProfile ∷ []
 
 -- the first of the rules that refuses one of the n blocks, with the first such block's place
-unfoldable pub first_refusal : List Rule → List ℕ → ℕ → Answer
-first_refusal [] plan n = Fine
+unfoldable pub first_refusal : List Rule → List ℕ → ℕ → Result (Unit {0}) Refusal
+first_refusal [] plan n = Ok tt
 first_refusal (r ∷ rs) plan n =
     let k : ℕ = first_index (broken r plan) 0 n in
-    let next : Answer = first_refusal rs plan n in
-    cond (nat_lt k n) (Refused (Broken r (k + 1))) next
+    let next : Result (Unit {0}) Refusal = first_refusal rs plan n in
+    cond (nat_lt k n) (Err (Broken r (k + 1))) next
 
 -- what a check of the blocks answers; 4: plan is 0 bytes, not a multiple of 512, or above 113 blocks
-unfoldable pub check_blocks : List ℕ → Answer
-check_blocks plan = cond (whole_blocks (length plan) 113) (first_refusal rules plan (length plan / 512)) (Refused (Broken Length 0))
+unfoldable pub check_blocks : List ℕ → Result (Unit {0}) Refusal
+check_blocks plan = cond (whole_blocks (length plan) 113) (first_refusal rules plan (length plan / 512)) (Err (Broken Length 0))

@@ -1,5 +1,5 @@
 -- Rules. The first index with a property, every index with one, and what a function gives at each index, by computation.
-use Rattle.std.specs.Prelude.{ℕ, zero, suc, Bool, true, cond, ◌&&◌, List, [], ◌∷◌}
+use Rattle.std.specs.Prelude.{ℕ, zero, suc, nat_lt, Bool, true, cond, ◌&&◌, Option, Some, None, List, [], ◌∷◌}
 
 -- the first of the m indices from k on at which f holds, or k + m where it holds at none
 unfoldable pub first_index : (ℕ → Bool) → ℕ → ℕ → ℕ
@@ -7,6 +7,10 @@ first_index f k zero = k
 first_index f k (suc m) =
     let next : ℕ = first_index f (suc k) m in
     cond (f k) k next
+
+-- the index k, if it is short of the end
+abbrev pub short_of : ℕ → ℕ → Option ℕ
+short_of k end = cond (nat_lt k end) (Some k) None
 
 -- f holds at each of the m indices from k on
 unfoldable pub every : (ℕ → Bool) → ℕ → ℕ → Bool

@@ -12,10 +12,8 @@ pub fn check_of(b: &[u8], place: u32) -> u32
     ensures { result ≡ check_of place b.now }
 {
     let mut sum = place;
-    let mut i: usize = 0;
-    while i < 127 {
-        sum = std::num::wrapping_add_u32(sum, u32_at(b, 4 * i));
-        i += 1;
+    for i in 0..127 {
+        sum = sum.wrapping_add(u32_at(b, 4 * i));
     }
     sum
 }
@@ -30,12 +28,11 @@ pub fn seal(s: &mut [u8], at: usize, place: u32)
 }
 
 // The block at the index k of a file.
-pub fn block(file: &[u8], k: usize) -> &[u8]
+pub fn block(file: &[u8], k: usize) -> &[u8; 512]
     requires { 512 * k + 512 ≤ length file.now }
-    ensures { (result.now ≡ Blocks·block file.now k) × (length result.now ≡ 512) }
+    ensures { result.now ≡ Blocks·block file.now k }
 {
-    let at = 512 * k;
-    &file[at..at + 512]
+    file[512 * k..].first_chunk().unwrap()
 }
 
 // The block at the index k of a file has the check of its place.

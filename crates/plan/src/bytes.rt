@@ -3,26 +3,19 @@ ghost use Rattle.std.specs.Prelude.{◌≡◌, ◌+◌, ◌<◌, ◌≤◌, leng
 ghost use Rattle.std.proofs.lemmas.List.Edits.{sets};
 ghost use Rattle.plan.specs.Bytes.{le_at, bytes, fields};
 
-fn byte_value(x: u8) -> u64
-    ensures { (result ≡ x) × (result < 256) }
-{
-    x as u64
-}
-
 // The number in the n bytes of s from at.
 pub fn get(s: &[u8], at: usize, n: usize) -> u64
     requires { (n ≤ 8) × (at + n ≤ length s.now) }
     ensures { result ≡ le_at n s.now at }
 {
     let mut v: u64 = 0;
-    let mut i = n;
-    while 0 < i {
-        i -= 1;
-        v = v * 256 + byte_value(s[at + i]);
+    for i in (0..n).rev() {
+        v = v * 256 + u64::from(s[at + i]);
     }
     v
 }
 
+// Of each width, in a type that holds it: from one function for all, every caller would have to narrow the number.
 pub fn u8_at(s: &[u8], at: usize) -> usize
     requires { at + 1 ≤ length s.now }
     ensures { (result ≡ le_at 1 s.now at) × (result < 256) }
@@ -57,11 +50,9 @@ pub fn put(s: &mut [u8], at: usize, n: usize, v: u64)
     ensures { s.new ≡ sets s.old at (bytes n v) }
 {
     let mut rest = v;
-    let mut i = 0;
-    while i < n {
+    for i in 0..n {
         s[at + i] = (rest % 256) as u8;
         rest /= 256;
-        i += 1;
     }
 }
 
@@ -70,11 +61,7 @@ pub fn put_bytes(s: &mut [u8], at: usize, from: &[u8])
     requires { at + length from.now ≤ length s.old }
     ensures { s.new ≡ sets s.old at from.now }
 {
-    let mut i = 0;
-    while i < from.len() {
-        s[at + i] = from[i];
-        i += 1;
-    }
+    s[at..at + from.len()].copy_from_slice(from);
 }
 
 // Stores fields, one after the other, into s from at: a width, a value, a width, a value, ..
@@ -83,11 +70,9 @@ pub fn put_fields(s: &mut [u8], at: usize, f: &[u64])
     ensures { s.new ≡ sets s.old at (fields f.now) }
 {
     let mut p = at;
-    let mut i = 0;
-    while 1 < f.len() - i {
-        let n = f[i] as usize;
-        put(s, p, n, f[i + 1]);
+    for i in 0..f.len() / 2 {
+        let n = f[2 * i] as usize;
+        put(s, p, n, f[2 * i + 1]);
         p += n;
-        i += 2;
     }
 }

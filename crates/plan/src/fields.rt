@@ -31,11 +31,9 @@ fn bytes_in(b: &[u8], from: usize, to: usize, lo: u8, hi: u8) -> bool
     ensures { result ≡ bytes_in b.now from to lo hi }
 {
     let mut ok = true;
-    let mut k = from;
-    while k < to {
+    for k in from..to {
         let x = b[k];
-        ok = ok & ((lo <= x) & (x <= hi));
-        k += 1;
+        ok &= (lo <= x) & (x <= hi);
     }
     ok
 }
@@ -48,23 +46,20 @@ pub fn zeros(b: &[u8], from: usize, to: usize) -> bool
     bytes_in(b, from, to, 0, 0)
 }
 
-pub fn letters_ok(b: &[u8]) -> bool
-    requires { length b.now ≡ 512 }
+pub fn letters_ok(b: &[u8; 512]) -> bool
     ensures { result ≡ letters_ok b.now }
 {
     (b[0] == b'P') & (b[1] == b'L') & (b[2] == b'A') & (b[3] == b'N')
 }
 
-fn limit_ok(b: &[u8]) -> bool
-    requires { length b.now ≡ 512 }
+fn limit_ok(b: &[u8; 512]) -> bool
     ensures { result ≡ limit_ok b.now }
 {
     let present = u8_at(b, 12);
     (present == 1) & f64_in(b, 16, 0.125, 65536.0) | (present == 0) & zeros(b, 16, 24)
 }
 
-pub fn header_ok(b: &[u8]) -> bool
-    requires { length b.now ≡ 512 }
+pub fn header_ok(b: &[u8; 512]) -> bool
     ensures { result ≡ holds (header_tests b.now) }
 {
     zeros(b, 10, 12)
@@ -75,37 +70,32 @@ pub fn header_ok(b: &[u8]) -> bool
 }
 
 // The number of points, of which no more than 30 are read.
-pub fn point_count(b: &[u8]) -> usize
-    requires { length b.now ≡ 512 }
+pub fn point_count(b: &[u8; 512]) -> usize
     ensures { (result ≡ point_count b.now) × (result ≤ 30) }
 {
-    let n = u16_at(b, 4);
-    if n < 30 { n } else { 30 }
+    u16_at(b, 4).min(30)
 }
 
-fn point_ok(b: &[u8], i: usize) -> bool
-    requires { (length b.now ≡ 512) × (i < 30) }
+fn point_ok(b: &[u8; 512], i: usize) -> bool
+    requires { i < 30 }
     ensures { result ≡ point_ok b.now i }
 {
     f64_in(b, 16 + 16 * i, 0.0, 1.0) & f64_in(b, 24 + 16 * i, 0.125, 1024.0)
 }
 
-fn points_ok(b: &[u8], n: usize) -> bool
-    requires { (length b.now ≡ 512) × (n ≤ 30) }
+fn points_ok(b: &[u8; 512], n: usize) -> bool
+    requires { n ≤ 30 }
     ensures { result ≡ every (point_ok b.now) 0 n }
 {
-    let mut i = 0;
-    while i < n {
+    for i in 0..n {
         if !point_ok(b, i) {
             return false;
         }
-        i += 1;
     }
     true
 }
 
-pub fn profile_ok(b: &[u8]) -> bool
-    requires { length b.now ≡ 512 }
+pub fn profile_ok(b: &[u8; 512]) -> bool
     ensures { result ≡ holds (profile_tests b.now) }
 {
     let n = point_count(b);
@@ -134,8 +124,7 @@ fn cap_ok(b: &[u8], at: usize) -> bool
     zeros(b, at, at + 8) | f64_in(b, at, 1.0, 4096.0)
 }
 
-pub fn charger_ok(b: &[u8]) -> bool
-    requires { length b.now ≡ 512 }
+pub fn charger_ok(b: &[u8; 512]) -> bool
     ensures { result ≡ holds (charger_tests b.now) }
 {
     connectors_ok(b, 4, 16)
@@ -150,8 +139,7 @@ pub fn charger_ok(b: &[u8]) -> bool
         & zeros(b, 80, 508)
 }
 
-pub fn vehicle_ok(b: &[u8]) -> bool
-    requires { length b.now ≡ 512 }
+pub fn vehicle_ok(b: &[u8; 512]) -> bool
     ensures { result ≡ holds (vehicle_tests b.now) }
 {
     connectors_ok(b, 8, 16)

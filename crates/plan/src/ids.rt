@@ -1,5 +1,6 @@
 // The ids of a plan's blocks, and the search for one.
 ghost use Rattle.std.specs.Prelude.{◌≡◌, ◌+◌, ◌*◌, ◌≤◌, length};
+ghost use Rattle.plan.specs.Search.{short_of};
 ghost use Rattle.plan.specs.Plan.{id_at, with_id};
 
 use crate::bytes::u32_at;
@@ -12,17 +13,15 @@ pub fn id_at(plan: &[u8], k: usize) -> u32
     u32_at(plan, 512 * k)
 }
 
-// The index of the first block from `from` up to, not including, `to` that has the id; `to` where none has it.
-pub fn with_id(plan: &[u8], from: usize, to: usize, id: u32) -> usize
+// The index of the first block from `from` up to, not including, `to` that has the id.
+pub fn with_id(plan: &[u8], from: usize, to: usize, id: u32) -> Option<usize>
     requires { 512 * to ≤ length plan.now }
-    ensures { result ≡ with_id plan.now from to id }
+    ensures { result ≡ short_of (with_id plan.now from to id) to }
 {
-    let mut j = from;
-    while j < to {
+    for j in from..to {
         if id_at(plan, j) == id {
-            return j;
+            return Some(j);
         }
-        j += 1;
     }
-    j
+    None
 }

@@ -1,12 +1,12 @@
 // Where a plan's blocks stand: a header, and then as many profiles, chargers and vehicles as it says.
 ghost use Rattle.std.specs.Prelude.{◌≡◌, ◌+◌, ◌*◌, ◌<◌, ◌≤◌, length};
-ghost use Rattle.plan.specs.Places.{profile_count, charger_count, vehicle_count, kind_at, start_of, is_profile, is_vehicle, block_of, place_of};
+ghost use Rattle.plan.specs.Places.{profile_count, charger_count, vehicle_count, kind_at, start_of, block_of, place_of};
 
 use crate::blocks::block;
 use crate::bytes::u16_at;
 
 // The kinds of blocks, in the plan's order.
-#[derive(Clone, Copy)]
+#[derive(Clone, Copy, Debug, PartialEq, Eq)]
 pub enum Kind {
     Header,
     Profile,
@@ -14,29 +14,7 @@ pub enum Kind {
     Vehicle,
 }
 
-pub fn is_profile(kind: Kind) -> bool
-    ensures { result ≡ is_profile kind }
-{
-    match kind {
-        Kind::Header => false,
-        Kind::Profile => true,
-        Kind::Charger => false,
-        Kind::Vehicle => false,
-    }
-}
-
-pub fn is_vehicle(kind: Kind) -> bool
-    ensures { result ≡ is_vehicle kind }
-{
-    match kind {
-        Kind::Header => false,
-        Kind::Profile => false,
-        Kind::Charger => false,
-        Kind::Vehicle => true,
-    }
-}
-
-// P, C and V: how many profiles, chargers and vehicles a plan has.
+// P, C and V, as the rules call them: how many profiles, chargers and vehicles a plan has.
 pub fn profile_count(plan: &[u8]) -> usize
     requires { 512 ≤ length plan.now }
     ensures { (result ≡ profile_count plan.now) × (result < 65536) }
@@ -91,9 +69,9 @@ pub fn start_of(plan: &[u8], kind: Kind) -> usize
 }
 
 // The i-th block of a kind, counted from 0.
-pub fn block_of(plan: &[u8], kind: Kind, i: usize) -> &[u8]
+pub fn block_of(plan: &[u8], kind: Kind, i: usize) -> &[u8; 512]
     requires { 512 * (start_of plan.now kind + i) + 512 ≤ length plan.now }
-    ensures { (result.now ≡ block_of plan.now kind i) × (length result.now ≡ 512) }
+    ensures { result.now ≡ block_of plan.now kind i }
 {
     block(plan, start_of(plan, kind) + i)
 }

@@ -1,27 +1,35 @@
 // A check of a plan's blocks: the refusals 4 to 11, in number order, each over the whole plan before the next.
-ghost use Rattle.std.specs.Prelude.{◌≡◌, ◌+◌, ◌*◌, ◌<◌, ◌≤◌, length, take, slice_index_or};
-ghost use Rattle.plan.specs.Search.{first_index, every, holds, each};
+ghost use Rattle.std.specs.Prelude.{◌≡◌, ◌+◌, ◌*◌, ◌<◌, ◌≤◌, length, take};
+ghost use Rattle.plan.specs.Search.{first_index, short_of, every, holds, each};
 ghost use Rattle.plan.specs.Fields.{f64_at};
 ghost use Rattle.plan.specs.Plan.{count_tests, field_tests, new_soc, broken as Plan·broken, rules, first_refusal, check_blocks};
 ghost use Rattle.plan.specs.Code.Socs.{new_among};
 
-use crate::answer::{Answer, Refusal, Rule};
+use crate::answer::{Refusal, Rule};
 use crate::blocks::{block, passes, whole_blocks};
 use crate::bytes::u32_at;
 use crate::fields::{
     charger_ok, f64_at, header_ok, letters_ok, point_count, profile_ok, vehicle_ok,
 };
 use crate::ids::{id_at, with_id};
-use crate::places::{
-    Kind, charger_count, is_profile, is_vehicle, kind_at, profile_count, start_of, vehicle_count,
-};
+use crate::places::{Kind, charger_count, kind_at, profile_count, start_of, vehicle_count};
 
 // A header, 16 profiles, 32 chargers and 64 vehicles.
 const MOST_BLOCKS: usize = 113;
 
+// The rules that are tested block by block, in number order.
+const RULES: [Rule; 7] = [
+    Rule::Check,
+    Rule::Header,
+    Rule::Field,
+    Rule::NoPoint,
+    Rule::EqualSoc,
+    Rule::UsedId,
+    Rule::NoProfile,
+];
+
 // 6: the header's letters and counts.
-fn counts_ok(b: &[u8], blocks: usize) -> bool
-    requires { length b.now ≡ 512 }
+fn counts_ok(b: &[u8; 512], blocks: usize) -> bool
     ensures { result ≡ holds (count_tests b.now blocks) }
 {
     let profiles = profile_count(b);
@@ -35,8 +43,7 @@ fn counts_ok(b: &[u8], blocks: usize) -> bool
 }
 
 // 7: every other field is within its limits, and unnamed and unused bytes are zero.
-fn fields_ok(kind: Kind, b: &[u8]) -> bool
-    requires { length b.now ≡ 512 }
+fn fields_ok(kind: Kind, b: &[u8; 512]) -> bool
     ensures { result ≡ holds (field_tests kind b.now) }
 {
     match kind {
@@ -48,14 +55,12 @@ fn fields_ok(kind: Kind, b: &[u8]) -> bool
 }
 
 // Reads the SOCs of the first n points of a profile's block into socs.
-fn read_socs(socs: &mut [f64], b: &[u8], n: usize)
-    requires { (length b.now ≡ 512) × ((n ≤ 30) × (n ≤ length socs.old)) }
+fn read_socs(socs: &mut [f64], b: &[u8; 512], n: usize)
+    requires { (n ≤ 30) × (n ≤ length socs.old) }
     ensures { take n socs.new ≡ each (λ j. f64_at b.now (16 + 16 * j)) 0 n }
 {
-    let mut i = 0;
-    while i < n {
+    for i in 0..n {
         socs[i] = f64_at(b, 16 + 16 * i);
-        i += 1;
     }
 }
 
@@ -67,26 +72,22 @@ fn new_soc(socs: &[f64], i: usize) -> bool
 {
     let x = socs[i];
     let mut new = true;
-    let mut j = 0;
-    while j < i {
-        new = new & !(socs[j] == x);
-        j += 1;
+    for j in 0..i {
+        new &= !(socs[j] == x);
     }
     new
 }
 
-fn new_socs(b: &[u8], n: usize) -> bool
-    requires { (length b.now ≡ 512) × (n ≤ 30) }
+fn new_socs(b: &[u8; 512], n: usize) -> bool
+    requires { n ≤ 30 }
     ensures { result ≡ every (new_soc b.now) 0 n }
 {
-    let mut socs: [f64; 30] = [0.0; 30];
+    let mut socs = [0.0; 30];
     read_socs(&mut socs, b, n);
-    let mut i = 0;
-    while i < n {
+    for i in 0..n {
         if !new_soc(&socs, i) {
             return false;
         }
-        i += 1;
     }
     true
 }
@@ -97,7 +98,7 @@ fn used_id(plan: &[u8], k: usize) -> bool
     ensures { result ≡ Plan·broken Rule.UsedId plan.now k }
 {
     let start = start_of(plan, kind_at(plan, k));
-    with_id(plan, start, k, id_at(plan, k)) < k
+    with_id(plan, start, k, id_at(plan, k)).is_some()
 }
 
 // 11: the block at the index k is a vehicle that names no profile.
@@ -109,7 +110,7 @@ fn no_profile(plan: &[u8], k: usize) -> bool
     let end = start_of(plan, Kind::Charger);
     let id = u32_at(block(plan, k), 4);
     if end <= k {
-        is_vehicle(kind) & (with_id(plan, 1, end, id) == end)
+        (kind == Kind::Vehicle) & with_id(plan, 1, end, id).is_none()
     } else {
         false
     }
@@ -127,68 +128,46 @@ fn broken(plan: &[u8], rule: Rule, k: usize) -> bool
         Rule::Check => !passes(plan, k),
         Rule::Header => (k == 0) & !counts_ok(block(plan, 0), plan.len() / 512),
         Rule::Field => !fields_ok(kind, b),
-        Rule::NoPoint => is_profile(kind) & (point_count(b) == 0),
-        Rule::EqualSoc => is_profile(kind) & !new_socs(b, point_count(b)),
+        Rule::NoPoint => (kind == Kind::Profile) & (point_count(b) == 0),
+        Rule::EqualSoc => (kind == Kind::Profile) & !new_socs(b, point_count(b)),
         Rule::UsedId => used_id(plan, k),
         Rule::NoProfile => no_profile(plan, k),
     }
 }
 
-// The index of the first of the n blocks that the rule refuses; n where it refuses none.
-fn first_broken(plan: &[u8], rule: Rule, n: usize) -> usize
+// The index of the first of the n blocks that the rule refuses.
+fn first_broken(plan: &[u8], rule: Rule, n: usize) -> Option<usize>
     requires { (512 * n ≤ length plan.now) × (length plan.now ≤ 57856) }
-    ensures { (result ≡ first_index (Plan·broken rule plan.now) 0 n) × (result ≤ n) }
+    ensures { result ≡ short_of (first_index (Plan·broken rule plan.now) 0 n) n }
 {
-    let mut k = 0;
-    while k < n {
+    for k in 0..n {
         if broken(plan, rule, k) {
-            return k;
+            return Some(k);
         }
-        k += 1;
     }
-    k
-}
-
-// The i-th rule, in number order after the length's.
-fn rule_at(i: usize) -> Rule
-    requires { i < 7 }
-    ensures { result ≡ slice_index_or rules i Rule.Length }
-{
-    match i {
-        0 => Rule::Check,
-        1 => Rule::Header,
-        2 => Rule::Field,
-        3 => Rule::NoPoint,
-        4 => Rule::EqualSoc,
-        5 => Rule::UsedId,
-        _ => Rule::NoProfile,
-    }
+    None
 }
 
 // The first refusal of the n blocks.
-fn first_refusal(plan: &[u8], n: usize) -> Answer
+fn first_refusal(plan: &[u8], n: usize) -> Result<(), Refusal>
     requires { (512 * n ≤ length plan.now) × (length plan.now ≤ 57856) }
     ensures { result ≡ first_refusal rules plan.now n }
 {
-    let mut i = 0;
-    while i < 7 {
-        let rule = rule_at(i);
-        let k = first_broken(plan, rule, n);
-        if k < n {
-            return Answer::Refused(Refusal::Broken(rule, k + 1));
+    for rule in RULES {
+        if let Some(k) = first_broken(plan, rule, n) {
+            return Err(Refusal::Broken(rule, k + 1));
         }
-        i += 1;
     }
-    Answer::Fine
+    Ok(())
 }
 
 // What a check of the blocks answers.
-pub fn check_blocks(plan: &[u8]) -> Answer
+pub fn check_blocks(plan: &[u8]) -> Result<(), Refusal>
     ensures { result ≡ check_blocks plan.now }
 {
     let n = plan.len();
-    if whole_blocks(n, MOST_BLOCKS) {
-        return first_refusal(plan, n / 512);
+    if !whole_blocks(n, MOST_BLOCKS) {
+        return Err(Refusal::Broken(Rule::Length, 0));
     }
-    Answer::Refused(Refusal::Broken(Rule::Length, 0))
+    first_refusal(plan, n / 512)
 }

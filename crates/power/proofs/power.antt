@@ -1,6 +1,6 @@
 pub mod SameCars
+pub mod Free
 pub mod Passes
 pub mod Gaps
 pub mod SpinRounds
-pub mod PassTurns
 pub mod Parked

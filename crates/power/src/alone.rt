@@ -5,22 +5,15 @@ ghost use Rattle.charger.specs.Code.Profiles.{curve_at};
 ghost use Rattle.power.specs.ChargerState.{is_free, with_cap, delivered};
 ghost use Rattle.power.specs.Code.Rounds.{spin};
 ghost use Rattle.power.specs.Code.Alone.{round_alone, CapMatchesRequest};
-ghost use Rattle.power.specs.Code.Bank.{bank, Room, Rising, Cars, spun};
+ghost use Rattle.power.specs.Code.Bank.{Rising, Cars, spun};
 
-use crate::bank::{load, store};
-use crate::charger_state::{ChargerState, is_charging, is_finished, is_free};
+use crate::charger_state::ChargerState;
 use crate::power::{Limit, Spun, added, cap_of, scaling};
-use crate::thin::advanced;
+use crate::thin::{progress, set_power_cap};
 use charger::charge_profile_list::{place_on_curve, reached_on_curve};
 use curve::float::same;
+use curve::points::Point;
 use curve::units::Kw;
-
-// A car's state after some rounds.
-#[derive(Clone, Copy)]
-struct Alone {
-    state: ChargerState,
-    spun: Spun,
-}
 
 // A car that asks for that power asks for no more than the rated one; a NaN is no power.
 fn within(power: f64, rated: f64) -> bool
@@ -30,27 +23,30 @@ fn within(power: f64, rated: f64) -> bool
 }
 
 // A round of charging by the power cap. Where that is the cap of the round before, the next round need not wait for it.
-fn by_cap(s: ChargerState, cap: f64) -> ChargerState
-    ensures { result ≡ delivered cap (with_cap (record { 0 = cap }) s) }
+fn by_cap(s: &mut ChargerState, cap: f64)
+    ensures { s.new ≡ delivered cap (with_cap (record { 0 = cap }) s.old) }
 {
     if same(cap, s.cap.0) {
-        return s.delivered(s.cap.0);
+        *s = s.delivered(s.cap.0);
+        return;
     }
-    s.with_cap(Kw(cap)).delivered(cap)
+    set_power_cap(s, Kw(cap));
+    *s = s.delivered(cap);
 }
 
 // A round. Where tests tell whether the car draws the rated power or what it asks for, the next round need not wait for the
 // smaller of the two.
-fn round(s: ChargerState, power: Kw, limit: Limit) -> ChargerState
-    ensures { result ≡ round_alone limit power s }
+fn round(s: &mut ChargerState, power: Kw, limit: Limit)
+    ensures { s.new ≡ round_alone limit power s.old }
 {
-    let asked = s.with_request(power);
-    let status = s.status;
+    s.requested = power;
     let rated = s.rated;
-    if is_charging(status) {
+    if s.status.is_charging() {
         if rated.0 < power.0 {
             if !(scaling(limit, 0.0 + rated.0) < 1.0) {
-                return asked.with_cap(rated).delivered(rated.0);
+                set_power_cap(s, rated);
+                *s = s.delivered(rated.0);
+                return;
             }
         }
         if within(power.0, rated.0) {
@@ -58,95 +54,80 @@ fn round(s: ChargerState, power: Kw, limit: Limit) -> ChargerState
             if factor < 1.0 {
                 let cap = power.0 * factor;
                 if cap < power.0 {
-                    return by_cap(asked, cap);
+                    by_cap(s, cap);
+                    return;
                 }
             } else {
-                return asked.with_cap(rated).delivered(power.0);
+                set_power_cap(s, rated);
+                *s = s.delivered(power.0);
+                return;
             }
         }
     }
-    advanced(
-        asked,
-        cap_of(asked, scaling(limit, added(0.0, status, asked.draw()))),
-    )
+    let cap = cap_of(s, scaling(limit, added(0.0, s.status, s.draw())));
+    set_power_cap(s, cap);
+    progress(s);
 }
 
 // The same round, which is short where the car still charges and asks for what it asked for in the round before: its cap stays then.
-fn next(s: ChargerState, power: Kw, limit: Limit, later: bool) -> ChargerState
-    requires { later ≡ true → CapMatchesRequest limit s }
-    ensures { result ≡ round_alone limit power s }
+fn next(s: &mut ChargerState, power: Kw, limit: Limit, later: bool)
+    requires { later ≡ true → CapMatchesRequest limit s.old }
+    ensures { s.new ≡ round_alone limit power s.old }
 {
-    let status = s.status;
-    if later & is_charging(status) {
+    if later & s.status.is_charging() {
         if same(power.0, s.requested.0) {
-            return s.progress();
+            progress(s);
+            return;
         }
     }
-    round(s, power, limit)
+    round(s, power, limit);
 }
 
 // Up to `count` rounds, until the charger is finished.
-fn rounds(start: ChargerState, curves: &[[f64; 2]], lens: &[u8], limit: Limit, count: u64) -> Alone
-    requires busy { is_free start.status ≡ false }
+fn rounds(s: &mut ChargerState, curves: &[Point], lens: &[u8], limit: Limit, count: u64) -> Spun
+    requires busy { is_free s.old.status ≡ false }
     requires rising { Rising curves.now lens.now }
-    ensures { spun (result.state ∷ []) result.spun ≡ spin limit (curve_at curves.now lens.now) 0 count (start ∷ []) }
+    ensures { spun (s.new ∷ []) result ≡ spin limit (curve_at curves.now lens.now) 0 count (s.old ∷ []) }
 {
-    let mut s = start;
     let mut segment = reached_on_curve(curves, lens, s.profile, s.soc);
-    let mut k = 0;
-    while k < count {
+    for k in 0..count {
         let place = place_on_curve(curves, lens, s.profile, segment, s.soc);
         segment = place.reached;
-        let power = place.power;
-        s = next(s, power, limit, 0 < k);
-        k += 1;
-        let status = s.status;
-        if is_finished(status) {
-            return Alone {
-                state: s,
-                spun: Spun {
-                    rounds: k,
-                    any: true,
-                },
+        next(s, place.power, limit, 0 < k);
+        if s.status.is_finished() {
+            return Spun {
+                rounds: k + 1,
+                any: true,
             };
         }
     }
-    Alone {
-        state: s,
-        spun: Spun {
-            rounds: k,
-            any: false,
-        },
+    Spun {
+        rounds: count,
+        any: false,
     }
 }
 
-// `charge_until` where the car at the place i is the only one among the first n chargers.
+// `charge_until` where the car at the place i is the only one.
 pub fn charge_alone(
-    floats: &mut [[f64; 9]],
-    bytes: &mut [[u8; 4]],
-    n: usize,
+    bank: &mut [ChargerState],
     i: usize,
-    curves: &[[f64; 2]],
+    curves: &[Point],
     lens: &[u8],
     limit: Limit,
     count: u64,
 ) -> Spun
-    requires room { Room n floats.old bytes.old }
-    requires cars { Cars floats.old bytes.old n (i ∷ []) }
+    requires cars { Cars bank.old (i ∷ []) }
     requires rising { Rising curves.now lens.now }
-    ensures { spun (bank n floats.new bytes.new) result ≡ spin limit (curve_at curves.now lens.now) 0 count (bank n floats.old bytes.old) }
+    ensures { spun bank.new result ≡ spin limit (curve_at curves.now lens.now) 0 count bank.old }
 {
-    let s = load(floats, bytes, i);
-    let status = s.status;
-    if is_free(status) {
+    let mut s = bank[i];
+    if s.status.is_free() {
         return Spun {
             rounds: count,
             any: false,
         };
     }
-    let alone = rounds(s, curves, lens, limit, count);
-    let state = alone.state;
-    store(floats, bytes, i, state);
-    let spun = alone.spun;
+    let spun = rounds(&mut s, curves, lens, limit, count);
+    bank[i] = s;
     spun
 }

@@ -6,7 +6,7 @@ use curve::float::{max, min};
 use curve::units::{Kw, Kwh, Seconds};
 
 // Finished: the car goes in this round; the charger is freed at the round's end.
-#[derive(Clone, Copy)]
+#[derive(Clone, Copy, PartialEq, Eq, Debug)]
 pub enum Status {
     Free,
     Charging,
@@ -33,113 +33,113 @@ pub struct ChargerState {
     pub vehicle: u8,
 }
 
+// A charger with no car.
+pub const EMPTY: ChargerState = ChargerState {
+    status: Status::Free,
+    profile: 0,
+    session: 0,
+    soc: 0.0,
+    target: 0.0,
+    battery: Kwh(0.0),
+    rated: Kw(0.0),
+    requested: Kw(0.0),
+    cap: Kw(0.0),
+    idle: Seconds(0.0),
+    energy: Kwh(0.0),
+    peak: Kw(0.0),
+    vehicle: 0,
+};
+
+impl Default for ChargerState {
+    ghost use Rattle.power.specs.ChargerState as Spec;
+
+    ghost is_default = { λ s. s ≡ Spec.empty };
+
+    fn default() -> Self {
+        EMPTY
+    }
+}
+
 // One second, in hours.
 const TIMESTEP_HRS: f64 = 1.0 / 3600.0;
 
-pub fn is_free(status: Status) -> bool
-    ensures { result ≡ Spec.is_free status }
-{
-    match status {
-        Status::Free => true,
-        Status::Charging => false,
-        Status::Idle => false,
-        Status::Finished => false,
+// The rules have a word for each of these tests.
+impl Status {
+    pub fn is_free(self) -> bool
+        ensures { result ≡ Spec.is_free self }
+    {
+        matches!(self, Status::Free)
     }
-}
 
-pub fn is_finished(status: Status) -> bool
-    ensures { result ≡ Spec.is_finished status }
-{
-    match status {
-        Status::Free => false,
-        Status::Charging => false,
-        Status::Idle => false,
-        Status::Finished => true,
+    pub fn is_finished(self) -> bool
+        ensures { result ≡ Spec.is_finished self }
+    {
+        matches!(self, Status::Finished)
     }
-}
 
-pub fn is_charging(status: Status) -> bool
-    ensures { result ≡ Spec.is_charging status }
-{
-    match status {
-        Status::Free => false,
-        Status::Charging => true,
-        Status::Idle => false,
-        Status::Finished => false,
+    pub fn is_charging(self) -> bool
+        ensures { result ≡ Spec.is_charging self }
+    {
+        matches!(self, Status::Charging)
     }
-}
 
-// Idle once the SOC has reached the target.
-fn charging_until(target: f64, soc: f64) -> Status
-    ensures { result ≡ Spec.charging_until target soc }
-{
-    if target <= soc {
-        Status::Idle
-    } else {
-        Status::Charging
+    // Idle once the SOC has reached the target.
+    fn charging_until(target: f64, soc: f64) -> Self
+        ensures { result ≡ Spec.charging_until target soc }
+    {
+        if target <= soc {
+            Status::Idle
+        } else {
+            Status::Charging
+        }
     }
-}
 
-// Finished once no idle time is left.
-fn idle_until(left: f64) -> Status
-    ensures { result ≡ Spec.idle_until left }
-{
-    if left <= 0.0 {
-        Status::Finished
-    } else {
-        Status::Idle
+    // Finished once no idle time is left.
+    fn idle_until(left: f64) -> Self
+        ensures { result ≡ Spec.idle_until left }
+    {
+        if left <= 0.0 {
+            Status::Finished
+        } else {
+            Status::Idle
+        }
     }
 }
 
 impl ChargerState {
+    // Leaves the charger with no car.
+    pub fn clear(&mut self)
+        ensures { self.new ≡ Spec.empty }
+    {
+        *self = EMPTY;
+    }
+
     // What the car draws, if the site's limit leaves it alone.
-    pub fn draw(self) -> f64
-        ensures { result ≡ Spec.draw self }
+    pub fn draw(&self) -> f64
+        ensures { result ≡ Spec.draw self.now }
     {
         min(self.requested.0, self.rated.0)
     }
 
-    pub fn with_request(self, power: Kw) -> Self
-        ensures { result ≡ Spec.with_request power self }
-    {
-        let mut s = self;
-        s.requested = power;
-        s
-    }
-
+    // By value from here on, and the thin calls (thin.rt) alter a state by them: document 01 names this form.
     pub fn with_cap(self, cap: Kw) -> Self
         ensures { result ≡ Spec.with_cap cap self }
     {
-        let mut s = self;
-        s.cap = cap;
-        s
+        ChargerState { cap, ..self }
     }
 
     // A round of charging by a power: idle once the target is reached.
     pub fn delivered(self, power: f64) -> Self
         ensures { result ≡ Spec.delivered power self }
     {
-        let battery = self.battery;
-        let rated = self.rated;
-        let requested = self.requested;
-        let cap = self.cap;
-        let idle = self.idle;
         let energy = power * TIMESTEP_HRS;
-        let soc = self.soc + energy / battery.0;
+        let soc = self.soc + energy / self.battery.0;
         ChargerState {
-            status: charging_until(self.target, soc),
-            vehicle: self.vehicle,
-            profile: self.profile,
-            session: self.session,
+            status: Status::charging_until(self.target, soc),
             soc,
-            target: self.target,
-            battery,
-            rated,
-            requested,
-            cap,
-            idle,
             energy: Kwh(self.energy.0 + energy),
             peak: Kw(max(self.peak.0, power)),
+            ..self
         }
     }
 
@@ -154,40 +154,23 @@ impl ChargerState {
     fn after_idling(self) -> Self
         ensures { result ≡ Spec.after_idling self }
     {
-        let battery = self.battery;
-        let rated = self.rated;
-        let requested = self.requested;
-        let cap = self.cap;
-        let energy = self.energy;
-        let peak = self.peak;
         let left = self.idle.0 - 1.0;
         ChargerState {
-            status: idle_until(left),
-            vehicle: self.vehicle,
-            profile: self.profile,
-            session: self.session,
-            soc: self.soc,
-            target: self.target,
-            battery,
-            rated,
-            requested,
-            cap,
+            status: Status::idle_until(left),
             idle: Seconds(left),
-            energy,
-            peak,
+            ..self
         }
     }
 
-    // A round's progress.
-    pub fn progress(self) -> Self
+    // A round's progress. The arms assign: as the value of the match, the state would cost the second pass more moves of memory.
+    pub fn progress(mut self) -> Self
         ensures { result ≡ Spec.progress self }
     {
-        let status = self.status;
-        match status {
-            Status::Free => self,
-            Status::Charging => self.after_charging(),
-            Status::Idle => self.after_idling(),
-            Status::Finished => self,
+        match self.status {
+            Status::Charging => self = self.after_charging(),
+            Status::Idle => self = self.after_idling(),
+            Status::Free | Status::Finished => {}
         }
+        self
     }
 }

@@ -1,8 +1,7 @@
-// The site's power, round by round: a charger's state, the states in lent rows, the cap of each charger, the progress (evse/site.rs).
+// The site's power, round by round: a charger's state, the cap of each charger, the progress (evse/site.rs).
 #![tactic(auto)]
 
 pub mod alone;
-pub mod bank;
 pub mod charger_state;
 pub mod power;
 pub mod rounds;

@@ -1,19 +1,20 @@
-// The site's power (evse/site.rs), and rounds over the bank.
-ghost use Rattle.std.specs.Prelude.{◌≡◌, false, map, ◌+◌, ◌≤◌, ◌<◌};
+// The site's power (evse/site.rs), and rounds over the bank: the states of all chargers, in one lent slice.
+ghost use Rattle.std.specs.Prelude.{◌≡◌, false, map, ◌≤◌, length};
 ghost use Rattle.curve.specs.F64.{ratio};
 ghost use Rattle.charger.specs.Code.Profiles.{curve_at};
-ghost use Rattle.power.specs.Code.Bank.{bank, Room, Rising, Cars, Requested, advanced, Advanced, spun};
+ghost use Rattle.power.specs.ChargerState.{is_finished};
+ghost use Rattle.power.specs.Code.Bank.{Rising, Cars, advanced, spun};
 ghost use Rattle.power.specs.Parked.{ParkedDrawNothing};
 ghost use Rattle.power.specs.Power as Spec;
 ghost use Rattle.power.specs.Code.Rounds as Rounds;
 
-use crate::bank::{load, store};
-use crate::charger_state::{ChargerState, Status, is_finished, is_free};
-use crate::thin::advanced;
+use crate::charger_state::{ChargerState, Status};
+use crate::thin::{progress, set_power_cap};
 use charger::charge_profile_list::place_on_curve;
+use curve::points::Point;
 use curve::units::Kw;
 
-// The most that all chargers may draw together.
+// The most that all chargers may draw together. An `Option` would be no plainer: `None` says less than `Unlimited`.
 #[derive(Clone, Copy)]
 pub enum Limit {
     Unlimited,
@@ -31,8 +32,8 @@ pub fn scaling(limit: Limit, sum: f64) -> f64
 }
 
 // The cap that a factor leaves a car: what it draws, scaled, if the factor is below 1, else the rated power.
-pub fn cap_of(s: ChargerState, factor: f64) -> Kw
-    ensures { result ≡ Spec.cap_of factor s }
+pub fn cap_of(s: &ChargerState, factor: f64) -> Kw
+    ensures { result ≡ Spec.cap_of factor s.now }
 {
     if factor < 1.0 {
         return Kw(s.draw() * factor);
@@ -45,136 +46,100 @@ pub fn added(sum: f64, status: Status, draw: f64) -> f64
     ensures { result ≡ Spec.added_by sum status draw }
 {
     match status {
-        Status::Free => sum,
         Status::Charging => sum + draw,
-        Status::Idle => sum,
-        Status::Finished => sum,
+        _ => sum,
     }
 }
 
-// One charger's turn in the first pass: its request, and the sum with what it draws. `segments` has, for each charger, the segment of
-// its curve that was found last, which is where the search begins.
-fn request_at(
-    floats: &mut [[f64; 9]],
-    bytes: &mut [[u8; 4]],
-    i: usize,
-    curves: &[[f64; 2]],
+// One charger's turn in the first pass: its request, and the sum with what it draws. `segment` is the one of its curve that was found
+// last, which is where the search begins.
+fn request(
+    s: &mut ChargerState,
+    curves: &[Point],
     lens: &[u8],
-    segments: &mut [usize; 32],
+    segment: &mut usize,
     sum: f64,
 ) -> f64
-    requires room { Room (i + 1) floats.old bytes.old }
-    requires few { i < 32 }
     requires rising { Rising curves.now lens.now }
-    ensures { Requested (curve_at curves.now lens.now) i sum floats.old bytes.old floats.new bytes.new result }
+    ensures asked { s.new ≡ Spec.active (Spec.request (curve_at curves.now lens.now)) s.old }
+    ensures summed { result ≡ Spec.added sum s.new }
 {
-    let s = load(floats, bytes, i);
-    let status = s.status;
-    if is_free(status) {
+    if s.status.is_free() {
         return sum;
     }
-    let place = place_on_curve(curves, lens, s.profile, segments[i], s.soc);
-    segments[i] = place.reached;
-    let power = place.power;
-    let asked = s.with_request(power);
-    store(floats, bytes, i, asked);
-    added(sum, status, asked.draw())
+    let place = place_on_curve(curves, lens, s.profile, *segment, s.soc);
+    *segment = place.reached;
+    s.requested = place.power;
+    added(sum, s.status, s.draw())
 }
 
-// The first pass: every car's request, and the sum of what those draw that charge. `busy` has the places of the cars among the first n.
+// The first pass: every car's request, and the sum of what those draw that charge. `busy` has the places of the cars, and `segments`
+// a segment for each charger.
 fn request_power(
-    floats: &mut [[f64; 9]],
-    bytes: &mut [[u8; 4]],
-    n: usize,
+    bank: &mut [ChargerState],
     busy: &[usize],
-    curves: &[[f64; 2]],
+    curves: &[Point],
     lens: &[u8],
     segments: &mut [usize; 32],
 ) -> f64
-    requires room { Room n floats.old bytes.old }
-    requires few { n ≤ 32 }
-    requires cars { Cars floats.old bytes.old n busy.now }
+    requires few { length bank.old ≤ 32 }
+    requires cars { Cars bank.old busy.now }
     requires rising { Rising curves.now lens.now }
-    ensures asked { bank n floats.new bytes.new ≡ map (Spec.active (Spec.request (curve_at curves.now lens.now))) (bank n floats.old bytes.old) }
-    ensures summed { result ≡ Spec.total (ratio 0 1) (bank n floats.new bytes.new) }
+    ensures asked { bank.new ≡ map (Spec.active (Spec.request (curve_at curves.now lens.now))) bank.old }
+    ensures summed { result ≡ Spec.total (ratio 0 1) bank.new }
 {
     let mut sum = 0.0;
-    let mut k: usize = 0;
-    while k < busy.len() {
-        sum = request_at(floats, bytes, busy[k], curves, lens, segments, sum);
-        k += 1;
+    for &i in busy {
+        sum = request(&mut bank[i], curves, lens, &mut segments[i], sum);
     }
     sum
 }
 
-// One charger's turn in the second pass: its cap and its progress.
-fn advance_at(
-    floats: &mut [[f64; 9]],
-    bytes: &mut [[u8; 4]],
-    i: usize,
-    factor: f64,
-    any: bool,
-) -> bool
-    requires { Room (i + 1) floats.old bytes.old }
-    ensures { Advanced factor i any floats.old bytes.old floats.new bytes.new result }
+// One charger's turn in the second pass: its cap and its progress. Says whether it is finished.
+fn move_on(s: &mut ChargerState, factor: f64) -> bool
+    ensures moved { s.new ≡ advanced factor s.old }
+    ensures finished { result ≡ is_finished s.new.status }
 {
-    let s = load(floats, bytes, i);
-    let status = s.status;
-    if is_free(status) {
-        return any;
+    if s.status.is_free() {
+        return false;
     }
-    let t = advanced(s, cap_of(s, factor));
-    store(floats, bytes, i, t);
-    let after = t.status;
-    if is_finished(after) {
-        return true;
-    }
-    any
+    let cap = cap_of(s, factor);
+    set_power_cap(s, cap);
+    progress(s);
+    s.status.is_finished()
 }
 
 // The second pass: every car's cap and progress. Says whether some charger is finished.
-fn advance(
-    floats: &mut [[f64; 9]],
-    bytes: &mut [[u8; 4]],
-    n: usize,
-    busy: &[usize],
-    factor: f64,
-) -> bool
-    requires room { Room n floats.old bytes.old }
-    requires cars { Cars floats.old bytes.old n busy.now }
-    ensures moved { bank n floats.new bytes.new ≡ map (advanced factor) (bank n floats.old bytes.old) }
-    ensures any { result ≡ Rounds.any_finished false (bank n floats.new bytes.new) }
+fn advance(bank: &mut [ChargerState], busy: &[usize], factor: f64) -> bool
+    requires cars { Cars bank.old busy.now }
+    ensures moved { bank.new ≡ map (advanced factor) bank.old }
+    ensures any { result ≡ Rounds.any_finished false bank.new }
 {
     let mut any = false;
-    let mut k: usize = 0;
-    while k < busy.len() {
-        any = advance_at(floats, bytes, busy[k], factor, any);
-        k += 1;
+    for &i in busy {
+        any |= move_on(&mut bank[i], factor);
     }
     any
 }
 
-// A round of power and progress over the first n chargers. Says whether some charger is finished.
+// A round of power and progress. Says whether some charger is finished.
 fn charge(
-    floats: &mut [[f64; 9]],
-    bytes: &mut [[u8; 4]],
-    n: usize,
+    bank: &mut [ChargerState],
     busy: &[usize],
-    curves: &[[f64; 2]],
+    curves: &[Point],
     lens: &[u8],
     segments: &mut [usize; 32],
     limit: Limit,
 ) -> bool
-    requires room { Room n floats.old bytes.old }
-    requires few { n ≤ 32 }
-    requires cars { Cars floats.old bytes.old n busy.now }
+    requires few { length bank.old ≤ 32 }
+    requires cars { Cars bank.old busy.now }
     requires rising { Rising curves.now lens.now }
-    ensures moved { bank n floats.new bytes.new ≡ Spec.charge limit (curve_at curves.now lens.now) (bank n floats.old bytes.old) }
-    ensures any { result ≡ Rounds.any_finished false (bank n floats.new bytes.new) }
-    ensures parked { ParkedDrawNothing limit (curve_at curves.now lens.now) (bank n floats.old bytes.old) (bank n floats.new bytes.new) }
+    ensures moved { bank.new ≡ Spec.charge limit (curve_at curves.now lens.now) bank.old }
+    ensures any { result ≡ Rounds.any_finished false bank.new }
+    ensures parked { ParkedDrawNothing limit (curve_at curves.now lens.now) bank.old bank.new }
 {
-    let sum = request_power(floats, bytes, n, busy, curves, lens, segments);
-    advance(floats, bytes, n, busy, scaling(limit, sum))
+    let sum = request_power(bank, busy, curves, lens, segments);
+    advance(bank, busy, scaling(limit, sum))
 }
 
 // How many rounds were charged, and whether a charger is finished.
@@ -184,36 +149,31 @@ pub struct Spun {
     pub any: bool,
 }
 
-// Rounds of power and progress, up to `count` of them, until some charger is finished. `busy` has the places of the cars among the first n.
+// Rounds of power and progress, up to `count` of them, until some charger is finished. `busy` has the places of the cars.
 pub fn charge_together(
-    floats: &mut [[f64; 9]],
-    bytes: &mut [[u8; 4]],
-    n: usize,
+    bank: &mut [ChargerState],
     busy: &[usize],
-    curves: &[[f64; 2]],
+    curves: &[Point],
     lens: &[u8],
     limit: Limit,
     count: u64,
 ) -> Spun
-    requires room { Room n floats.old bytes.old }
-    requires few { n ≤ 32 }
-    requires cars { Cars floats.old bytes.old n busy.now }
+    requires few { length bank.old ≤ 32 }
+    requires cars { Cars bank.old busy.now }
     requires rising { Rising curves.now lens.now }
-    ensures { spun (bank n floats.new bytes.new) result ≡ Rounds.spin limit (curve_at curves.now lens.now) 0 count (bank n floats.old bytes.old) }
+    ensures { spun bank.new result ≡ Rounds.spin limit (curve_at curves.now lens.now) 0 count bank.old }
 {
     let mut segments: [usize; 32] = [0; 32];
-    let mut k = 0;
-    while k < count {
-        if charge(floats, bytes, n, busy, curves, lens, &mut segments, limit) {
+    for k in 0..count {
+        if charge(bank, busy, curves, lens, &mut segments, limit) {
             return Spun {
                 rounds: k + 1,
                 any: true,
             };
         }
-        k += 1;
     }
     Spun {
-        rounds: k,
+        rounds: count,
         any: false,
     }
 }

@@ -14,10 +14,10 @@ use Rattle.files.specs.Demand.{ReadsBack}
 use Rattle.plan.specs.declared.answer.Rule.TheVariants.{Length, Check, Header, Field, NoPoint, EqualSoc, UsedId, NoProfile}
 use Rattle.plan.specs.declared.answer.Refusal.{Refusal}
 use Rattle.plan.specs.declared.answer.Refusal.TheVariants.{EngineAbove, AllowanceAbove, BookUnder, Broken, CannotCharge, DumpUnder, OtherDump, BookDamaged, BookAgainstRules, VehiclesFull, NotLater}
-use Rattle.plan.specs.declared.answer.RunAnswer.{RunAnswer}
-use Rattle.plan.specs.declared.answer.RunAnswer.TheVariants.{Refused, Stopped}
 use Rattle.files.proofs.ReadBack.{length_book}
 use Rattle.program.specs.Output.{engine_of, allowance_of, plan_of, line, output_of, output}
+use Rattle.std.specs.Prelude.{Result, Ok, Err}
+use Rattle.plan.specs.declared.answer.Totals.{Totals}
 
 -- a buffer with a file's bytes first, and how many they are
 pub shown : (text out out' : List ℕ) (r : ℕ) → out' ≡ written text out → r ≡ length text
@@ -51,21 +51,21 @@ refused NotLater e = omega arith
 
 module _ (plan : List ℕ) (engine n : ℕ) (out out' : List ℕ) where
   -- number 0: the book stands in the buffer, and its header tells its length
-  pub success : (r : RunAnswer) → out' ≡ book_after plan engine n r out → ReadsBack plan engine n out' r → get_or (numbers r) 0 0 ≡ 0
+  pub success : (r : Result Totals Refusal) → out' ≡ book_after plan engine n r out → ReadsBack plan engine n out' r → get_or (numbers r) 0 0 ≡ 0
       → (out' ≡ written (output_of plan engine n r) out) × (512 + 512 * ((session_count out' + 4) / 5) ≡ length (output_of plan engine n r))
   unfolding output_of book_of
-  success (Refused x) e b z = absurd (refused x z)
-  success (Stopped t) e b z = (e, rw b.count (sym (length_book engine _ _ _)))
+  success (Err x) e b z = absurd (refused x z)
+  success (Ok t) e b z = (e, rw b.count (sym (length_book engine _ _ _)))
 
   -- any other: the buffer is as it was, and the line is what is left to write
-  pub refusal : (r : RunAnswer) → out' ≡ book_after plan engine n r out → (get_or (numbers r) 0 0 ≡ 0 → ⊥)
+  pub refusal : (r : Result Totals Refusal) → out' ≡ book_after plan engine n r out → (get_or (numbers r) 0 0 ≡ 0 → ⊥)
       → (out' ≡ out) × (line (take 3 (numbers r)) ≡ output_of plan engine n r)
   unfolding output_of
-  refusal (Refused x) e z = (e, rw (ne_eqb (number x) 0 z))
-  refusal (Stopped t) e z = absurd (z refl)
+  refusal (Err x) e z = (e, rw (ne_eqb (number x) 0 z))
+  refusal (Ok t) e z = absurd (z refl)
 
 -- the parts of the input, and the answer for a buffer of 7,168 bytes, give the output
-pub same_output : (input plan : List ℕ) (engine n room : ℕ) (r : RunAnswer) → plan ≡ plan_of input → engine ≡ engine_of input → n ≡ allowance_of input
+pub same_output : (input plan : List ℕ) (engine n room : ℕ) (r : Result Totals Refusal) → plan ≡ plan_of input → engine ≡ engine_of input → n ≡ allowance_of input
     → room ≡ 7168 → r ≡ answer_of plan engine n room → output_of plan engine n r ≡ output input
 unfolding output
 same_output input plan engine n room r p e a k q = rw (q, p, e, a, k)

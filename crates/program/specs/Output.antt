@@ -1,11 +1,12 @@
 -- Rules. What the program writes for an input: the book's blocks, or a refusal's number and places.
-use Rattle.std.specs.Prelude.{ℕ, zero, suc, ◌/◌, cond, List, [], ◌∷◌, ◌++◌, eqb, ltb, get_or, take, drop}
+use Rattle.std.specs.Prelude.{ℕ, zero, suc, ◌/◌, cond, List, [], ◌∷◌, ◌++◌, eqb, ltb, get_or, take, drop, Result}
 use Rattle.io.specs.Digits.{last_digits}
 use Rattle.plan.specs.Bytes.{le_at}
 use Rattle.files.specs.Read.{read_plan}
 use Rattle.plan.specs.Answer.{numbers}
 use Rattle.files.specs.Call.{stop_of, book_of, answer_of}
-use Rattle.plan.specs.declared.answer.RunAnswer.{RunAnswer}
+use Rattle.plan.specs.declared.answer.Refusal.{Refusal}
+use Rattle.plan.specs.declared.answer.Totals.{Totals}
 
 -- ---- the input: an engine byte, a 32-bit allowance, then the plan; missing bytes are zero
 
@@ -42,7 +43,7 @@ line [] = []
 line (n ∷ rest) = (decimal n ++ (behind rest ∷ [])) ++ line rest
 
 -- number 0 is success: the book's blocks are written; any other: the number and both places
-unfoldable pub output_of : List ℕ → ℕ → ℕ → RunAnswer → List ℕ
+unfoldable pub output_of : List ℕ → ℕ → ℕ → Result Totals Refusal → List ℕ
 output_of plan engine allowance r =
     cond (eqb (get_or (numbers r) 0 0) 0) (book_of plan engine (stop_of (read_plan plan) engine allowance)) (line (take 3 (numbers r)))
 

@@ -16,7 +16,7 @@ use plan::bytes::put_bytes;
 fn byte_at(input: &[u8], k: usize) -> u32
     ensures { (result ≡ le_at 1 input.now k) × (result < 256) }
 {
-    if k < input.len() { input[k] as u32 } else { 0 }
+    u32::from(input.get(k).copied().unwrap_or(0))
 }
 
 fn allowance_of(input: &[u8]) -> u32
@@ -32,8 +32,7 @@ fn allowance_of(input: &[u8]) -> u32
 fn plan_of(input: &[u8]) -> &[u8]
     ensures { result.now ≡ plan_of input.now }
 {
-    let n = input.len();
-    if 5 <= n { &input[5..n] } else { &input[n..n] }
+    &input[input.len().min(5)..]
 }
 
 // The bytes of a book's blocks: five sessions a block after the header.
@@ -72,12 +71,9 @@ pub fn put_line(out: &mut [u8], numbers: &[u64]) -> usize
     ensures length { result ≡ length (line numbers.now) }
     ensures stored { out.new ≡ written (line numbers.now) out.old }
 {
-    let n = numbers.len();
     let mut at = 0;
-    let mut i = 0;
-    while i < n {
-        at = put_decimal(out, at, numbers[i], byte_behind(i, n));
-        i += 1;
+    for (i, x) in numbers.iter().enumerate() {
+        at = put_decimal(out, at, *x, byte_behind(i, numbers.len()));
     }
     at
 }

@@ -9,7 +9,7 @@ use std::io;
 use std::io::Read;
 
 // Reads until the buffer is full or the input ends, and gives how many bytes it put at the start of the buffer; or the error of the first read
-// that fails. A read that a signal interrupts counts as one that failed.
+// that fails. A read that a signal interrupts counts as one that failed. The loop goes on by what a read gave, and counts no index.
 pub fn read_full<R: Read>(reader: &mut R, buffer: &mut [u8]) -> io::Result<usize>
     ensures counted { ReadsAtMost result buffer.new }
     ensures bytes { IfOk result (λ n. Consumes (R.remaining reader.old) (R.remaining reader.new) (take n buffer.new)) }

@@ -6,9 +6,9 @@ ghost use Rattle.io.specs.Counts.{IsPrefixLen};
 ghost use Rattle.files.specs.Book.{written};
 ghost use Rattle.totals.specs.Output.{totals_numbers, output};
 
-use book_reader::totals::{BookTotals, TotalsAnswer, totals};
+use book_reader::totals::{BookTotals, totals};
 use curve::float::to_bits;
-use plan::answer::{Answer, check_numbers};
+use plan::answer::check_numbers;
 use program::put_line;
 use reading::read_full;
 
@@ -33,16 +33,12 @@ fn reply(book: &[u8], out: &mut [u8; 147]) -> usize
     ensures text { take result out.new ≡ output book.now }
     ensures whole { out.new ≡ written (output book.now) out.old }
 {
-    let answer = totals(book);
-    match answer {
-        TotalsAnswer::Refused(refusal) => {
-            let numbers = check_numbers(Answer::Refused(refusal));
+    match totals(book) {
+        Err(refusal) => {
+            let numbers = check_numbers(Err(refusal));
             put_line(out, &numbers[..3])
         }
-        TotalsAnswer::Summed(t) => {
-            let numbers = totals_numbers(t);
-            put_line(out, &numbers)
-        }
+        Ok(t) => put_line(out, &totals_numbers(t)),
     }
 }
 

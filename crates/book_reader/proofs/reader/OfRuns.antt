@@ -19,7 +19,6 @@ use Rattle.engine.proofs.Demanded.{by_events_lem, by_steps_lem}
 use Rattle.engine.proofs.site.Fitted.{Fitted, fitted_by_events, fitted_by_steps}
 use Rattle.plan.specs.Plan.{check_blocks}
 use Rattle.plan.specs.Search.{holds}
-use Rattle.plan.specs.declared.answer.Answer.TheVariants.{Fine}
 use Rattle.files.specs.Read.{read_plan, vehicles_of, connector_rows}
 use Rattle.files.specs.Check.{check_plan}
 use Rattle.files.specs.BookSession.{entry, code_of, book_sessions, Fits}
@@ -30,6 +29,7 @@ use Rattle.files.proofs.call.BookDemand.{few_sessions}
 use Rattle.files.proofs.call.Fleets.{fleets_known}
 use Rattle.book_reader.specs.SessionRules.{session_tests}
 use Rattle.book_reader.specs.Accepted.{ByRules, ran_to}
+use Rattle.std.specs.Prelude.{Ok}
 
 -- ---- both engines
 
@@ -50,7 +50,7 @@ module _ (plan : List ℕ) where
   abbrev fleet : Session → ℕ
   fleet x = (vehicle_at (vehicles_of plan) x.vehicle).fleet
 
-  follows : check_blocks plan ≡ Fine → (x : Session) → Fitted (read_plan plan) x → holds (session_tests (entry plan (vehicles_of plan) (connector_rows plan) x)) ≡ true
+  follows : check_blocks plan ≡ Ok tt → (x : Session) → Fitted (read_plan plan) x → holds (session_tests (entry plan (vehicles_of plan) (connector_rows plan) x)) ≡ true
   follows fine x h = by_outcome x.outcome refl
     where
       small : leb (fleet x) 64 ≡ true
@@ -65,12 +65,12 @@ module _ (plan : List ℕ) where
       by_outcome Reneged e = rw (e, small)
       by_outcome Balked e = rw (e, small)
 
-  all_follow : check_blocks plan ≡ Fine → {xs : List Session} → All (Fitted (read_plan plan)) xs
+  all_follow : check_blocks plan ≡ Ok tt → {xs : List Session} → All (Fitted (read_plan plan)) xs
       → All (λ y. holds (session_tests y) ≡ true) (map (entry plan (vehicles_of plan) (connector_rows plan)) xs)
   all_follow fine none = none
   all_follow fine (also {x = x} h hs) = also (follows fine x h) (all_follow fine hs)
 
-  pub ran_by_rules : (engine n : ℕ) → check_plan plan ≡ Fine → engine ≤ 1 → n < 2 ^ 64
+  pub ran_by_rules : (engine n : ℕ) → check_plan plan ≡ Ok tt → engine ≤ 1 → n < 2 ^ 64
       → let s = stop_of (read_plan plan) engine n in
       All Fits (book_sessions plan s.sessions) → ByRules (ran_to plan engine s)
   unfolding book_sessions

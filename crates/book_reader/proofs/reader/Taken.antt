@@ -22,7 +22,6 @@ use Rattle.plan.proofs.SearchLaws.{every_of}
 use Rattle.files.specs.BookSession.{no_session}
 use Rattle.files.specs.SessionBlocks.{slot, session_block, session_blocks, session_of}
 use Rattle.files.specs.Book.{header_block, book_bytes, written, book_offset, ReadBack}
-use Rattle.files.specs.Code.Writing.{FitBelow}
 use Rattle.files.specs.declared.book_session.BookSession.{BookSession}
 use Rattle.files.proofs.session_blocks.Laws.{length-slot, session_back, block_at}
 use Rattle.files.proofs.ReadBack.{header-length, length_book, book_session_at, book_back}
@@ -55,13 +54,10 @@ module _ (c : Contents) (w : ByRules c) where
   unfolding written
   alone = rw (drop-nil, append-nil)
 
-  fit_below : FitBelow (length xs) xs
-  fit_below k h = all_at xs k no_session h w.widths
-
   back : ReadBack c.engine c.ended c.used xs b
   back =
       subst (ReadBack c.engine c.ended c.used xs) alone
-      (book_back c.engine c.ended c.used xs [] w.few (omega (arith, w.engine)) (omega (arith, w.ended)) w.used fit_below)
+      (book_back c.engine c.ended c.used xs [] w.few (omega (arith, w.engine)) (omega (arith, w.ended)) w.used w.widths)
 
   long : length b ≡ 512 * (1 + m)
   long = length_book c.engine c.ended c.used xs ∙ omega arith
@@ -102,7 +98,7 @@ module _ (c : Contents) (w : ByRules c) where
   session_there k h =
       let x : BookSession = get_or xs k no_session in
       let s = starts k h in
-      let read : session_of (drop (book_offset k) b) ≡ x = rw s.1 (session_back x s.0 (fit_below k h)) in
+      let read : session_of (drop (book_offset k) b) ≡ x = rw s.1 (session_back x s.0 (all_at xs k no_session h w.widths)) in
       rw (read, all_at xs k no_session h w.fields)
 
   -- ---- what follows the last session of a block

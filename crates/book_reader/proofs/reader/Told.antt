@@ -1,25 +1,17 @@
 -- What the reader's answer tells once it is taken apart. Assumes nothing.
-use mathlib.Core.Path.{◌≡◌, sym, ◌∙◌, subst}
+use mathlib.Core.Path.{◌≡◌, sym, ◌∙◌}
 use mathlib.Core.List.{List}
-use Prim.Native.Nat.{ℕ, ◌≤◌}
-use lib.ListN.{take}
+use Prim.Native.Nat.{ℕ}
+use Rattle.std.specs.Prelude.{Result, Ok, Err}
 use Rattle.plan.specs.declared.answer.Refusal.{Refusal}
-use Rattle.files.specs.Code.Writing.{EmptyFrom}
-use Rattle.files.specs.declared.book_session.BookSession.{BookSession}
 use Rattle.book_reader.specs.Reader.{refused, contents, read_book}
-use Rattle.book_reader.specs.Code.Read.{reading_of, Beside}
-use Rattle.book_reader.specs.declared.reader.BookAnswer.{BookAnswer}
-use Rattle.book_reader.specs.declared.reader.BookAnswer.TheVariants.{Refused, Read}
-use Rattle.book_reader.specs.declared.reader.BookHeader.{BookHeader}
+use Rattle.book_reader.specs.Code.Read.{reading}
+use Rattle.book_reader.specs.declared.reader.ReadBook.{ReadBook}
 
-module _ (b : List ℕ) (a : BookAnswer) (all : List BookSession) (r : reading_of a all ≡ read_book b) where
-  pub told_refused : (x : Refusal) → a ≡ Refused x → read_book b ≡ refused x
+module _ (b : List ℕ) (a : Result ReadBook Refusal) (r : reading a ≡ read_book b) where
+  pub told_refused : (x : Refusal) → a ≡ Err x → read_book b ≡ refused x
   told_refused x e = sym r ∙ rw e
 
-  -- as many sessions as the header says
-  pub told_read : (h : BookHeader) → a ≡ Read h
-      → read_book b ≡ contents (record { engine = h.engine; ended = h.ended; used = h.used; sessions = take h.count all })
-  told_read h e = sym r ∙ rw e
-
-  pub told_beside : (h : BookHeader) → a ≡ Read h → Beside a all → (h.count ≤ 64) × EmptyFrom h.count all
-  told_beside h e k = subst (λ (x : BookAnswer). Beside x all) e k
+  pub told_read : (k : ReadBook) → a ≡ Ok k
+      → read_book b ≡ contents (record { engine = k.header.engine; ended = k.header.ended; used = k.header.used; sessions = k.sessions.items })
+  told_read k e = sym r ∙ rw e

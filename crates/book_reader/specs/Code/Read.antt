@@ -1,12 +1,9 @@
 -- Refinement: what the program asks of a book, and what it has read of one.
-use Rattle.std.specs.Prelude.{ℕ, ◌+◌, ◌*◌, ◌/◌, ◌≤◌, ◌≡◌, List, length, take}
+use Rattle.std.specs.Prelude.{ℕ, ◌+◌, ◌*◌, ◌/◌, ◌≤◌, ◌≡◌, List, length, Result, Ok, Err}
 use Rattle.plan.specs.Bytes.{le_at}
-use Rattle.files.specs.declared.book_session.BookSession.{BookSession}
 use Rattle.files.specs.Book.{session_count}
-use Rattle.files.specs.Code.Writing.{EmptyFrom}
 use Rattle.book_reader.specs.Reader.{Reading, refused, contents}
-use Rattle.book_reader.specs.declared.reader.BookAnswer.{BookAnswer}
-use Rattle.book_reader.specs.declared.reader.BookAnswer.TheVariants.{Refused, Read}
+use Rattle.plan.specs.declared.answer.Refusal.{Refusal}
 use Rattle.book_reader.specs.declared.reader.BookHeader.{BookHeader}
 use Rattle.book_reader.specs.declared.reader.ReadBook.{ReadBook}
 
@@ -20,16 +17,13 @@ pub record Room (book : List ℕ) (n : ℕ) : Type 0 where
 abbrev pub header_of : List ℕ → BookHeader
 header_of b = record { count = session_count b; engine = le_at 1 b 6; ended = le_at 1 b 7; used = le_at 8 b 8 }
 
-abbrev pub reading_of : BookAnswer → List BookSession → Reading
-reading_of (Refused x) all = refused x
-reading_of (Read h) all =
-    contents (record { engine = h.engine; ended = h.ended; used = h.used; sessions = take h.count all })
+-- the header with the sessions
+abbrev pub reading : Result ReadBook Refusal → Reading
+reading (Err x) = refused x
+reading (Ok r) =
+    contents (record { engine = r.header.engine; ended = r.header.ended; used = r.header.used; sessions = r.sessions.items })
 
--- the answer with the sessions beside it: as many of the array's first as the header says
-abbrev pub reading : ReadBook → Reading
-reading r = reading_of r.answer r.sessions
-
--- at most 64, and none past them
-abbrev pub Beside : BookAnswer → List BookSession → Type 0
-Beside (Refused x) all = Unit {0}
-Beside (Read h) all = (h.count ≤ 64) × EmptyFrom h.count all
+-- at most 64, and as many as the header says
+abbrev pub Beside : Result ReadBook Refusal → Type 0
+Beside (Err x) = Unit {0}
+Beside (Ok r) = (r.header.count ≤ 64) × (length r.sessions.items ≡ r.header.count)

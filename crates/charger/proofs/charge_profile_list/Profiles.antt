@@ -5,13 +5,12 @@ use Prim.Native.Nat.{ℕ, ◌+◌, ◌*◌, ◌-◌, ◌≤◌, ◌<◌}
 use native.Mathlib.Omega.{arith}
 use borrow.Author.Tests.{le-leb, lt-leb, lt-ltb, le-ltb}
 use lib.ListN.{length, get_or, take, drop}
-use lib.Ieee.{Float}
-use Rattle.curve.specs.Code.Rows.{points}
+use Rattle.curve.specs.declared.points.Point.{Point}
 use Rattle.charger.specs.Code.Profiles.{curve_at}
 
-module _ (curves : List (List Float)) (lens : List ℕ) (k : ℕ) where
+module _ (curves : List Point) (lens : List ℕ) (k : ℕ) where
   pub inside : (end : ℕ) → k < length lens → end ≡ 32 * k + get_or lens k 0 → end ≤ length curves
-      → curve_at curves lens k ≡ points (take (end - 32 * k) (drop (32 * k) curves))
+      → curve_at curves lens k ≡ take (end - 32 * k) (drop (32 * k) curves)
   unfolding curve_at
   inside end h e f =
       let size : end - 32 * k ≡ get_or lens k 0 = omega arith in

@@ -1,20 +1,24 @@
 -- With no caps the rated power goes by the charger's own current, and a cap never raises it.
-use mathlib.Core.Path.{◌≡◌, refl, sym, ap, ◌∙◌}
+use mathlib.Core.Path.{◌≡◌, refl, sym, ap, subst, ◌∙◌}
 use mathlib.Core.Bool.{Bool, false, cond, true≢false}
 use mathlib.Core.List.{List}
 use mathlib.Core.Logic.{inl, ⊎_elim}
-use Prim.Native.Nat.{ℕ, ◌-◌}
+use Prim.Native.Nat.{ℕ, ◌-◌, ◌≤◌, ◌<◌}
+use native.Mathlib.Omega.{arith}
+use borrow.Author.Tests.{le-leb}
+use lib.ListN.{length, get_or, get_or-eq_default}
+use Rattle.std.proofs.lemmas.List.{get_or_default}
+use Rattle.std.specs.Prelude.{Option, Some, None}
 use lib.Dec.{T, leb}
 use lib.Ieee.{Float, binary64, mul, div, le, eq}
 use lib.Ieee.Positive.{positive, above, above_of_le, between, mul_mono}
 use Rattle.curve.specs.F64.{◌⊗◌, ◌⊘◌, ratio, clear}
 use Rattle.curve.specs.Limits.{Within}
 use Rattle.curve.specs.declared.units.Amperes.{Amperes}
+use Rattle.curve.specs.declared.units.Kw.{Kw}
 use Rattle.curve.proofs.float.Clear.{div_clear, mul_clear, least_one}
 use Rattle.curve.proofs.float.Monotone.{le_self, div_mono, least_mono, least-below}
 use Rattle.charger.specs.declared.charger.Charger.{Charger}
-use Rattle.charger.specs.declared.connector.Common.{Common}
-use Rattle.charger.specs.declared.connector.Common.TheVariants.{Connector, Nothing}
 use Rattle.charger.specs.declared.vehicle.Vehicle.{Vehicle}
 use Rattle.charger.specs.Charger.{no_cap, is_none, cap_of, current_of, with_current, actual_max_power, power_by, rated_power}
 use Rattle.charger.specs.Connector.{is_connector}
@@ -22,6 +26,19 @@ use Rattle.charger.specs.Leads.{NoCap, CapWithin, ChargerWithin, uncapped, CapsL
 use Rattle.charger.specs.Lists.{All}
 use Rattle.charger.specs.Vehicle.{connector_of, compatible}
 use Rattle.charger.proofs.Lists.{by_cond, by_test, all_default}
+
+-- the cap of a code that has a lead, and of one that has none
+pub cap_at : (x : Charger) (code i : ℕ) (d : Amperes) → 1 ≤ code → code ≤ length x.caps → i ≡ code - 1 → get_or x.caps i d ≡ cap_of x code
+unfolding cap_of
+cap_at x code i d h b e = rw (e, le-leb 1 code h) (get_or_default x.caps (code - 1) d no_cap (omega arith))
+
+pub no_lead : (x : Charger) (code : ℕ) → code ≡ 0 → no_cap ≡ cap_of x code
+unfolding cap_of
+no_lead x code e = rw e
+
+pub past_leads : (x : Charger) (code : ℕ) → length x.caps < code → no_cap ≡ cap_of x code
+unfolding cap_of
+past_leads x code h = rw (le-leb 1 code (omega arith)) (sym (get_or-eq_default x.caps no_cap (omega arith)))
 
 -- what holds of every cap, and of none, holds of a lead's
 cap_one : (P : Amperes → Type 0) (x : Charger) (code : ℕ) → P no_cap → All P x.caps → P (cap_of x code)
@@ -109,17 +126,22 @@ module _ (x : Charger) (row : List Bool) (vehicle : Vehicle) where
   unfolding compatible
   without all = go (connector_of row vehicle)
     where
-      go : (k : Common) → power_by x (with_current x k) ≡ cond (is_connector k) (actual_max_power x x.current) (record { 0 = ratio 0 1 })
-      go (Connector code) = ap (actual_max_power x) (same_current x code all)
-      go Nothing = refl
+      go : (k : Option ℕ) → power_by x (with_current x k) ≡ cond (is_connector k) (actual_max_power x x.current) (record { 0 = ratio 0 1 })
+      go (Some code) = ap (actual_max_power x) (same_current x code all)
+      go None = refl
 
   lower : ChargerWithin x → T (le (rated_power x row vehicle).0 (uncapped x row vehicle).0)
   unfolding compatible ratio
   lower w = go (connector_of row vehicle)
     where
-      go : (k : Common) → T (le (power_by x (with_current x k)).0 (cond (is_connector k) (actual_max_power x x.current) (record { 0 = ratio 0 1 })).0)
-      go (Connector code) = power_mono x w (current_of x code) x.current (current_drawn x w code) w.current (current_below x w code)
-      go Nothing = unfold le in tt
+      go : (k : Option ℕ) → T (le (power_by x (with_current x k)).0 (cond (is_connector k) (actual_max_power x x.current) (record { 0 = ratio 0 1 })).0)
+      go (Some code) = power_mono x w (current_of x code) x.current (current_drawn x w code) w.current (current_below x w code)
+      go None = unfold le in tt
 
+  -- the law of the caps
   pub caps_lower : CapsLower x row vehicle (rated_power x row vehicle)
   caps_lower = record { without = without; lower = lower }
+
+  -- what the code finds by the rule obeys it
+  pub with-law : (r : Kw) → r ≡ rated_power x row vehicle → CapsLower x row vehicle r
+  with-law r e = subst (CapsLower x row vehicle) (sym e) caps_lower

@@ -26,8 +26,3 @@ row_has ks (suc (suc (suc (suc (suc (suc k)))))) = row_past ks (suc (suc (suc (s
 pub connectors_listed : (n : ℕ) (codes : List ℕ) → take (named_connectors n codes).count (named_connectors n codes).codes ≡ codes_of n codes
 connectors_listed zero codes = refl
 connectors_listed (suc n) codes = refl
-
--- any other count is taken as it is
-pub connectors_some : (n : ℕ) (codes : List ℕ) → (n ≡ 0 → ⊥) → record { codes = codes; count = n } ≡ named_connectors n codes
-connectors_some zero codes h = absurd (h refl)
-connectors_some (suc n) codes h = refl

@@ -1,7 +1,7 @@
--- Refinement: the plan's vehicles as an array and its length.
-use Rattle.std.specs.Prelude.{List, take}
+-- Refinement: the plan's vehicles as a list.
+use Rattle.std.specs.Prelude.{List}
 use Rattle.charger.specs.declared.vehicle.Vehicle.{Vehicle}
 use Rattle.charger.specs.declared.vehicle_list.VehicleList.{VehicleList}
 
 abbrev pub listed : VehicleList → List Vehicle
-listed l = take l.len l.all
+listed l = l.vehicles.items

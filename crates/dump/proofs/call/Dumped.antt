@@ -1,7 +1,7 @@
 -- What `dump` promises of every run that it does not refuse, and its answer by the tests in their order. Assumes nothing.
 use mathlib.Core.Path.{◌≡◌, sym, ap, ◌∙◌, subst}
 use mathlib.Core.Bool.{true}
-use mathlib.Core.List.{List, [], ◌++◌}
+use mathlib.Core.List.{List, ◌++◌}
 use Prim.Native.Nat.{ℕ, ◌≤◌, ◌<◌}
 use native.Mathlib.Omega.{arith}
 use borrow.Author.Tests.{lt-ltb, le-ltb, ltb-false}
@@ -10,23 +10,18 @@ use lib.ListN.{length, drop}
 use Rattle.charger.specs.Lists.{tick}
 use Rattle.engine.specs.Discrete.{run}
 use Rattle.engine.specs.Demand.{by_events}
-use Rattle.plan.specs.Plan.{check_blocks}
-use Rattle.plan.specs.declared.answer.Answer.{Answer}
 use Rattle.plan.specs.declared.answer.Refusal.{Refusal}
 use Rattle.plan.specs.declared.answer.Refusal.TheVariants.{EngineAbove, AllowanceAbove, BookUnder, DumpUnder}
-use Rattle.plan.specs.declared.answer.RunAnswer.{RunAnswer}
-use Rattle.plan.specs.declared.answer.RunAnswer.TheVariants.{Refused, Stopped}
 use Rattle.plan.specs.declared.answer.Totals.{Totals}
 use Rattle.files.specs.Read.{read_plan}
-use Rattle.files.specs.Pairs.{failing_pair}
-use Rattle.files.specs.Check.{check_plan, pair_answer, then_check}
+use Rattle.files.specs.Check.{check_plan}
 use Rattle.files.specs.BookSession.{book_sessions}
 use Rattle.files.specs.SessionBlocks.{slot}
 use Rattle.files.specs.Book.{written, session_at, ReadBack}
 use Rattle.files.specs.Call.{totals, if_fine, book_of, book_after}
 use Rattle.files.specs.Demand.{OfRun, ReadsBack}
 use Rattle.files.proofs.check.PairLaws.{plan_fine}
-use Rattle.files.proofs.call.Demanded.{Runs, of_map, of_both, if_fine_lem, unpromised, book_bytes_lem, promised}
+use Rattle.files.proofs.call.Demanded.{Runs, of_map, of_both, if_fine_lem, Promises, book_bytes_lem, promised}
 use Rattle.files.proofs.call.BookDemand.{few_sessions, length_said, bytes_at}
 use Rattle.dump.specs.Dump.{dump_bytes, dump_of, handled_in, is_dump, session_count as dumped_count, session_at as dumped_at}
 use Rattle.dump.specs.Call.{dump_answer, dump_after, continued_answer}
@@ -34,54 +29,50 @@ use Rattle.dump.specs.Continued.{Unbroken, FitsBuffer, Determines, BlocksPass, C
 use Rattle.dump.proofs.dump.ReadBack.{session_count_lem, session_read}
 use Rattle.dump.proofs.dump.Runs.{few_events, fits_buffer, named, is_own, determined}
 use Rattle.dump.proofs.dump.Passes.{dump_passes}
-use Rattle.dump.proofs.call.Laws.{of_cond, unbroken, EventPromises, of_events}
+use Rattle.dump.proofs.call.Laws.{of_cond, unbroken}
+use Rattle.std.specs.Prelude.{Result, Ok, Err}
 
 -- all of them, in the order in which the call promises them
-abbrev pub DumpPromises : List ℕ → ℕ → List ℕ → List ℕ → List ℕ → RunAnswer → Type 0
-DumpPromises plan n old book dump r =
-    Unbroken plan n old book r
-    × (FitsBuffer plan n r
-    × (Determines plan n r
-    × (BlocksPass plan n dump r
-    × (Continues plan n dump r
-    × (SessionsOfBook plan n dump book r
-    × EventPromises plan n book r)))))
-
--- nothing is promised of a refused call
-pub undumped : (plan : List ℕ) (n : ℕ) (old book dump : List ℕ) (x : Refusal) → DumpPromises plan n old book dump (Refused x)
-undumped plan n old book dump x = (tt, (tt, (tt, (tt, (tt, (tt, of_events [] 0 [] (Refused x) (unpromised x)))))))
+pub record DumpPromises (plan : List ℕ) (n : ℕ) (old book dump : List ℕ) (r : Result Totals Refusal) : Type 0 where
+  pub unbroken : Unbroken plan n old book r
+  pub fits : FitsBuffer plan n r
+  pub determines : Determines plan n r
+  pub blocks : BlocksPass plan n dump r
+  pub continues : Continues plan n dump r
+  pub sessions : SessionsOfBook plan n dump book r
+  pub run : Promises plan 0 n book r
 
 module _ (plan : List ℕ) (engine n room space : ℕ) where
   -- ---- the answer, by the tests in their order
 
-  pub engine_some : 0 < engine → Refused EngineAbove ≡ dump_answer plan engine n room space
+  pub engine_some : 0 < engine → Err EngineAbove ≡ dump_answer plan engine n room space
   unfolding dump_answer
   engine_some h = rw (lt-ltb 0 engine h)
 
   module _ (e : engine ≤ 0) where
-    pub allowance_above : 10000000 < n → Refused AllowanceAbove ≡ dump_answer plan engine n room space
+    pub allowance_above : 10000000 < n → Err AllowanceAbove ≡ dump_answer plan engine n room space
     unfolding dump_answer
     allowance_above h = rw (le-ltb 0 engine e, lt-ltb 10000000 n h)
 
     module _ (a : n ≤ 10000000) where
-      pub book_under : room < 7168 → Refused BookUnder ≡ dump_answer plan engine n room space
+      pub book_under : room < 7168 → Err BookUnder ≡ dump_answer plan engine n room space
       unfolding dump_answer
       book_under h = rw (le-ltb 0 engine e, le-ltb 10000000 n a, lt-ltb room 7168 h)
 
       module _ (b : 7168 ≤ room) where
-        pub dump_under : space < 16384 → Refused DumpUnder ≡ dump_answer plan engine n room space
+        pub dump_under : space < 16384 → Err DumpUnder ≡ dump_answer plan engine n room space
         unfolding dump_answer
         dump_under h = rw (le-ltb 0 engine e, le-ltb 10000000 n a, le-ltb room 7168 b, lt-ltb space 16384 h)
 
         module _ (d : 16384 ≤ space) where
-          pub by_plan : (x : Answer) → check_blocks plan ≡ x
-              → dump_answer plan engine n room space ≡ if_fine (then_check x (pair_answer plan (failing_pair (read_plan plan)))) (Stopped (totals (by_events (read_plan plan) n)))
-          unfolding dump_answer check_plan
+          pub by_plan : (x : Result (Unit {0}) Refusal) → check_plan plan ≡ x
+              → dump_answer plan engine n room space ≡ if_fine x (Ok (totals (by_events (read_plan plan) n)))
+          unfolding dump_answer
           by_plan x h = rw (le-ltb 0 engine e, le-ltb 10000000 n a, le-ltb room 7168 b, le-ltb space 16384 d, h)
 
 module _ (plan : List ℕ) (engine n room space : ℕ) where
   -- a run that was not refused has passed the tests
-  known_by : (P : Totals → Type 0) → (7168 ≤ room → OfRun P (if_fine (check_plan plan) (Stopped (totals (by_events (read_plan plan) n))))) → OfRun P (dump_answer plan engine n room space)
+  known_by : (P : Totals → Type 0) → (7168 ≤ room → OfRun P (if_fine (check_plan plan) (Ok (totals (by_events (read_plan plan) n))))) → OfRun P (dump_answer plan engine n room space)
   unfolding dump_answer
   known_by P h =
       of_cond P (ltb 0 engine) EngineAbove _
@@ -91,16 +82,16 @@ module _ (plan : List ℕ) (engine n room space : ℕ) where
   runs = known_by (Runs plan 0 n) (λ c. if_fine_lem plan 0 n (omega arith))
 
   roomy : OfRun (λ t. 7168 ≤ room) (dump_answer plan engine n room space)
-  roomy = known_by (λ t. 7168 ≤ room) (λ c. of_map (λ t k. c) (if_fine (check_plan plan) (Stopped (totals (by_events (read_plan plan) n)))) (if_fine_lem plan 0 n (omega arith)))
+  roomy = known_by (λ t. 7168 ≤ room) (λ c. of_map (λ t k. c) (if_fine (check_plan plan) (Ok (totals (by_events (read_plan plan) n)))) (if_fine_lem plan 0 n (omega arith)))
 
 -- the bytes of the dump
-dump_bytes_lem : (plan : List ℕ) (n : ℕ) (blank dump : List ℕ) (r : RunAnswer) → dump ≡ dump_after plan n r blank
+dump_bytes_lem : (plan : List ℕ) (n : ℕ) (blank dump : List ℕ) (r : Result Totals Refusal) → dump ≡ dump_after plan n r blank
     → OfRun (λ t. dump ≡ dump_of plan n ++ drop (length (dump_of plan n)) blank) r
 unfolding written
-dump_bytes_lem plan n blank dump (Refused x) h = tt
-dump_bytes_lem plan n blank dump (Stopped t) h = h
+dump_bytes_lem plan n blank dump (Err x) h = tt
+dump_bytes_lem plan n blank dump (Ok t) h = h
 
-module _ (plan : List ℕ) (engine n : ℕ) (r : RunAnswer) (old book blank dump : List ℕ) (e : r ≡ dump_answer plan engine n (length old) (length blank))
+module _ (plan : List ℕ) (engine n : ℕ) (r : Result Totals Refusal) (old book blank dump : List ℕ) (e : r ≡ dump_answer plan engine n (length old) (length blank))
     (b : book ≡ book_after plan 0 n r old) (back : ReadsBack plan 0 n book r) (d : dump ≡ dump_after plan n r blank) where
   known : OfRun (Runs plan 0 n) r
   known = subst (OfRun (Runs plan 0 n)) (sym e) (runs plan engine n (length old) (length blank))
@@ -152,13 +143,13 @@ module _ (plan : List ℕ) (engine n : ℕ) (r : RunAnswer) (old book blank dump
       r known both_written
 
   pub dumped : DumpPromises plan n old book dump r
-  dumped = (
-    unbroken plan n old book r known room b,
-    (
-      of_map (λ t k. fits_buffer plan (plan_fine plan k.fine).0 n) r known,
-      (
-        of_map (λ t k m same. determined plan (plan_fine plan k.fine).0 n m same) r known,
-        (passes_all, (continues, (sessions_of_book, of_events plan n book r (promised plan 0 n r known old book b back)))),
-      ),
-    ),
-  )
+  dumped =
+      record {
+        unbroken = unbroken plan n old book r known room b;
+        fits = of_map (λ t k. fits_buffer plan (plan_fine plan k.fine).0 n) r known;
+        determines = of_map (λ t k m same. determined plan (plan_fine plan k.fine).0 n m same) r known;
+        blocks = passes_all;
+        continues = continues;
+        sessions = sessions_of_book;
+        run = promised plan 0 n r known old book b back;
+      }

@@ -4,101 +4,102 @@ use mathlib.Core.Bool.{Bool, true, false, cond}
 use mathlib.Core.List.{List}
 use Prim.Native.Nat.{ℕ, ◌≤◌}
 use native.Mathlib.Omega.{arith}
-use lib.Ieee.{Float}
-use lib.ListN.{length, length-take}
+use lib.ListN.{length}
+use Rattle.charger.specs.Lists.{All}
 use Rattle.charger.proofs.Lists.{all_map}
 use Rattle.engine.specs.declared.discrete.State.{State}
 use Rattle.engine.specs.declared.site.Site.{Site}
 use Rattle.engine.specs.Plan.{Plan}
 use Rattle.engine.specs.Discrete as D
-use Rattle.engine.specs.Code.Simulation.{plan_of, model, Sound}
+use Rattle.engine.specs.Discrete.{Occupant, no_car, car}
+use Rattle.engine.specs.Code.Simulation.{plan_of, model, booked}
 use Rattle.engine.proofs.discrete.InPlan.{InPlan, in_plan}
 use Rattle.plan.specs.declared.answer.Refusal.{Refusal}
-use Rattle.plan.specs.declared.answer.RunAnswer.{RunAnswer}
-use Rattle.plan.specs.declared.answer.RunAnswer.TheVariants.{Refused, Stopped}
 use Rattle.plan.specs.declared.answer.Totals.{Totals}
 use Rattle.files.specs.Call.{answer_of, book_after}
-use Rattle.files.specs.Code.Reading.{Loaded, Admitted}
-use Rattle.files.specs.Demand.{OfRun, ReadsBack, UnitsUsed, FreeKnown, NoFreeFits, OneSpot, OneById, AddUp, CountsOfBook, ClosedStay, ExactWaits, Handled, EventsEnd}
-use Rattle.files.specs.HotDay.{HotDayOfRun, BookByRating}
-use Rattle.files.specs.Fleets.{FleetsWithin, FleetsCarried, AsBefore}
-use Rattle.files.proofs.call.RunLaws.{runnable, plan_read}
-use Rattle.files.proofs.call.Demanded.{Runs, answered, Promises}
+use Rattle.files.specs.Code.Reading.{Loaded}
+use Rattle.files.specs.Read.{read_plan, chargers_of, charger_of}
+use Rattle.files.specs.Code.Running.{Stopped}
+use Rattle.engine.specs.Demand.{by_events}
+use Rattle.plan.specs.Places.{charger_block, charger_count}
+use Rattle.plan.proofs.SearchLaws.{length-each}
+use Rattle.files.specs.Demand.{OfRun}
+use Rattle.files.proofs.call.RunLaws.{runnable, as_counted, writable}
+use Rattle.files.proofs.call.BookDemand.{few_sessions}
+use Rattle.files.specs.Code.Writing.{Writable}
+use Rattle.files.proofs.call.Demanded.{Runs, answered}
 use Rattle.dump.specs.Dump.{dump_bytes, dump_of}
 use Rattle.dump.specs.Continued.{Unbroken}
-use Rattle.dump.specs.Code.Dumping.{Dumpable}
+use Rattle.dump.specs.Code.Dumping.{Dumpable, NearCar}
+use Rattle.dump.proofs.call.Standing.{Standing, standing}
+use Rattle.std.specs.Prelude.{Result, Ok, Err}
 
 -- ---- the state of a run
 
-module _ {plan : List ℕ} {site : Site} {rows : List (List Bool)} {curves : List (List Float)} {lens : List ℕ} (fine : Admitted plan) (l : Loaded plan site rows curves lens)
-    (state : State) (n : ℕ) (same : model site.count state ≡ D.run (plan_of site rows curves lens) n) where
-  abbrev p : Plan
-  p = plan_of site rows curves lens
+near_car : (p : Plan) → length p.vehicles ≤ 64 → (o : Occupant) → Standing p o → NearCar o
+near_car p few no_car h = tt
+near_car p few (car v) h = omega arith
 
-  -- whoever is pending or queued is one of the plan's
-  within : InPlan p (model site.count state)
+module _ {plan : List ℕ} {site : Site} (l : Loaded plan site) (state : State) (n : ℕ) (same : model state ≡ D.run (plan_of site) n) where
+  abbrev p : Plan
+  p = plan_of site
+
+  -- whoever is pending, queued or at a charger is one of the plan's
+  within : InPlan p (model state)
   within = subst (InPlan p) (sym same) (in_plan p n)
 
+  at_chargers : All (Standing p) state.places.items
+  at_chargers = subst (λ (s : D.State). All (Standing p) s.site.places) (sym same) (standing p n)
+
   few_vehicles : length p.vehicles ≤ 64
-  few_vehicles = omega (arith, length-take site.vehicles.len site.vehicles.all, (runnable fine l).vehicles)
+  few_vehicles = (runnable l).vehicles
 
   few_chargers : length p.chargers ≤ 32
-  few_chargers = omega (arith, length-take site.count site.chargers, (runnable fine l).chargers)
+  unfolding chargers_of
+  few_chargers = omega (arith, ap (λ (q : Plan). length q.chargers) l.read, length-each (λ (i : ℕ). charger_of (charger_block plan i)) 0 (charger_count plan), (as_counted plan l.admitted).chargers)
 
-  pub dumpable : Sound state.simulation → Dumpable plan site.vehicles rows state site.count
-  dumpable sound =
+  few_booked : length (booked state.simulation.sessions) ≤ 64
+  few_booked = omega (arith, few_sessions plan 0 n l.admitted, ap (λ (s : D.State). length s.site.sessions) (same ∙ ap (λ (q : Plan). D.run q n) l.read))
+
+  pub dumpable : Dumpable plan site state
+  dumpable =
       record {
-        counted = l.counted;
-        vehicles = l.site_read.vehicles;
-        connectors = l.rows_read;
-        sound = sound;
+        counted = as_counted plan l.admitted;
+        read = l.read;
+        sessions = few_booked;
         events = all_map (λ e h. (omega (arith, h.0, few_vehicles), omega (arith, h.1, few_chargers))) within.pending;
         queue = all_map (λ v h. omega (arith, h, few_vehicles)) within.queue;
-        few = (runnable fine l).chargers;
+        chargers = omega (arith, within.places, few_chargers);
+        cars = all_map (near_car p few_vehicles) at_chargers;
       }
 
+  -- its book can be written
+  pub bookable : (book : List ℕ) → 7168 ≤ length book → Writable plan site (booked state.simulation.sessions) book
+  bookable book room = writable l (booked state.simulation.sessions) book few_booked room
+
   -- its dump is that of the plan's run
-  pub dump_shown : dump_bytes plan (model site.count state) ≡ dump_of plan n
+  pub dump_shown : dump_bytes plan (model state) ≡ dump_of plan n
   unfolding dump_of
-  dump_shown = ap (dump_bytes plan) (same ∙ ap (λ (q : Plan). D.run q n) (plan_read fine l))
+  dump_shown = ap (dump_bytes plan) (same ∙ ap (λ (q : Plan). D.run q n) l.read)
+
+-- what the run left at its stop is what the plan's run leaves
+pub stopped_read : {plan : List ℕ} {site : Site} → Loaded plan site → (n m : ℕ) → n ≡ m → (old : List ℕ) (counts : Totals) (book : List ℕ)
+    → Stopped plan 0 (by_events (plan_of site) n) old counts book → Stopped plan 0 (by_events (read_plan plan) m) old counts book
+stopped_read {plan} {site} l n m e old counts book h =
+    subst (λ (k : ℕ). Stopped plan 0 (by_events (read_plan plan) k) old counts book) e (subst (λ (q : Plan). Stopped plan 0 (by_events q n) old counts book) l.read h)
 
 -- ---- what is known of a run that was not refused
 
 -- a test that refuses, before other tests
-pub of_cond : (P : Totals → Type 0) (c : Bool) (x : Refusal) (r : RunAnswer) → (c ≡ false → OfRun P r) → OfRun P (cond c (Refused x) r)
+pub of_cond : (P : Totals → Type 0) (c : Bool) (x : Refusal) (r : Result Totals Refusal) → (c ≡ false → OfRun P r) → OfRun P (cond c (Err x) r)
 of_cond P true x r h = tt
 of_cond P false x r h = h refl
 
 -- the answer and the book are those that `run` gives
-pub unbroken : (plan : List ℕ) (n : ℕ) (old book : List ℕ) (r : RunAnswer) → OfRun (Runs plan 0 n) r → OfRun (λ t. 7168 ≤ length old) r → book ≡ book_after plan 0 n r old
+pub unbroken : (plan : List ℕ) (n : ℕ) (old book : List ℕ) (r : Result Totals Refusal) → OfRun (Runs plan 0 n) r → OfRun (λ t. 7168 ≤ length old) r → book ≡ book_after plan 0 n r old
     → Unbroken plan n old book r
-unbroken plan n old book (Refused x) runs room b = tt
-unbroken plan n old book (Stopped t) runs room b =
+unbroken plan n old book (Err x) runs room b = tt
+unbroken plan n old book (Ok t) runs room b =
     λ few.
-    let e : Stopped t ≡ answer_of plan 0 n (length old) = ap Stopped runs.counts ∙ sym (answered plan 0 n (length old) runs.fine (omega arith) few room) in
-    (e, b ∙ ap (λ (r : RunAnswer). book_after plan 0 n r old) e)
-
--- what `run` promises of a run by events, in the order in which both calls promise it
-abbrev pub EventPromises : List ℕ → ℕ → List ℕ → RunAnswer → Type 0
-EventPromises plan n book r =
-    ReadsBack plan 0 n book r
-    × (UnitsUsed plan 0 n r
-    × (FreeKnown plan 0 n r
-    × (NoFreeFits plan 0 n r
-    × (OneSpot plan 0 n r
-    × (OneById plan 0 n book r
-    × (AddUp plan 0 n r
-    × (CountsOfBook plan 0 n book r
-    × (ClosedStay plan 0 n book r
-    × (ExactWaits plan 0 n r
-    × (Handled plan 0 n r
-    × (EventsEnd plan 0 n r
-    × (HotDayOfRun plan r
-    × (BookByRating plan 0 book r
-    × (FleetsWithin plan 0 n r
-    × (FleetsCarried plan book r
-    × AsBefore plan r)))))))))))))))
-
-pub of_events : (plan : List ℕ) (n : ℕ) (book : List ℕ) (r : RunAnswer) → Promises plan 0 n book r → EventPromises plan n book r
-of_events plan n book r (back, (units, (free, (settled, (spots, (ids, (counts, (outcomes, (closed, (waits, (handled, (events, (steps, rest))))))))))))) =
-    (back, (units, (free, (settled, (spots, (ids, (counts, (outcomes, (closed, (waits, (handled, (events, rest))))))))))))
+    let e : Ok t ≡ answer_of plan 0 n (length old) = ap Ok runs.counts ∙ sym (answered plan 0 n (length old) runs.fine (omega arith) few room) in
+    (e, b ∙ ap (λ (r : Result Totals Refusal). book_after plan 0 n r old) e)

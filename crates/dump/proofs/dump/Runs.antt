@@ -9,13 +9,13 @@ use Rattle.engine.specs.Discrete.{State, run}
 use Rattle.engine.proofs.Demanded.{by_events_lem, event_demand}
 use Rattle.engine.proofs.discrete.EventLaws.{run_handled}
 use Rattle.plan.specs.Plan.{check_blocks}
-use Rattle.plan.specs.declared.answer.Answer.TheVariants.{Fine}
 use Rattle.plan.proofs.bytes.Laws.{Begins}
 use Rattle.files.specs.Read.{read_plan}
 use Rattle.files.proofs.call.BookDemand.{few_vehicles, few_sessions, length_said}
 use Rattle.dump.specs.Dump.{dump_bytes, dump_of, handled_in, is_dump}
 use Rattle.dump.proofs.dump.Laws.{length_dump, handled_back}
 use Rattle.dump.proofs.dump.Starts.{starts, starts_with_lem, too_short}
+use Rattle.std.specs.Prelude.{Ok}
 
 -- a dump has its header at least
 at_least : (plan : List ℕ) (n : ℕ) → 512 ≤ length (dump_of plan n)
@@ -27,7 +27,7 @@ pub no_header : (plan b : List ℕ) → length b < 512 → is_dump plan b ≡ fa
 unfolding is_dump
 no_header plan b h = too_short (dump_of plan (handled_in b)) b (omega (arith, at_least plan (handled_in b)))
 
-module _ (plan : List ℕ) (fine : check_blocks plan ≡ Fine) where
+module _ (plan : List ℕ) (fine : check_blocks plan ≡ Ok tt) where
   abbrev at : ℕ → State
   at n = run (read_plan plan) n
 

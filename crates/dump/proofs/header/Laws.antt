@@ -1,39 +1,26 @@
 -- Laws of the header of a dump: its tables, and the busy chargers. Assumes nothing.
-use mathlib.Core.Path.{◌≡◌, refl, sym, ap, fun_ext, ◌∙◌}
+use mathlib.Core.Path.{◌≡◌, refl, sym, ap, ◌∙◌}
 use mathlib.Core.Bool.{true}
-use mathlib.Core.List.{List, [], ◌∷◌, ◌++◌, map-append, append-nil, append_assoc}
-use Prim.Native.Nat.{ℕ, zero, suc, ◌+◌, ◌-◌, ◌*◌, ◌^◌, ◌≤◌, ◌<◌}
+use mathlib.Core.List.{List, [], ◌∷◌, ◌++◌, append-nil, append_assoc}
+use Prim.Native.Nat.{ℕ, suc, ◌+◌, ◌*◌, ◌/◌, ◌^◌, ◌≤◌, ◌<◌}
 use native.Mathlib.Nat.{add-zero, zero-add}
 use native.Mathlib.Omega.{arith}
-use lib.ListN.{length, get_or, set, take, drop, length-append, length-set, length-take, length-map}
+use lib.ListN.{length, get_or, take, drop, length-append, length-take, length-map}
 use lib.Seq.{sets}
 use Rattle.charger.specs.Lists.{tick, count}
-use Rattle.charger.proofs.Lists.{count-append}
 use Rattle.charger.proofs.waiting_queue.Part.{take_more}
 use Rattle.engine.specs.Discrete.{Occupant, no_car, car, State}
-use Rattle.engine.specs.Code.Simulation.{occupant_of, occupants}
 use Rattle.plan.specs.Bytes.{le_at, bytes, fields}
 use Rattle.plan.specs.Blocks.{check_of, sealed, passes}
-use Rattle.plan.specs.Places.{place_of}
-use Rattle.plan.specs.declared.places.Kind.TheVariants.{Charger, Vehicle}
 use Rattle.plan.proofs.bytes.Laws.{sets_append, length-bytes, length-pieces, read_back}
 use Rattle.plan.proofs.blocks.Laws.{put_sealed, length-sealed, sealed-passes}
 use Rattle.dump.specs.Dump.{queue_blocks, busy_at, busy_blocks, is_busy, table, header_block, state_header}
-use Rattle.dump.specs.Code.Laid.{Laid}
-use Rattle.dump.proofs.Laid.{laid_more}
 
 -- ---- tables
 
 pub length-table : (xs : List ℕ) → length (table xs) ≡ 128
 unfolding table
 length-table xs = length-pieces (λ (k : ℕ). bytes 2 (get_or xs k 0)) 2 (λ k. length-bytes 2 (get_or xs k 0)) 0 64
-
--- a table goes by what is laid out in the array
-pub table_laid : (l a : List ℕ) → Laid 0 l a → table a ≡ table l
-unfolding table Laid
-table_laid l a h =
-    let same : ◌≡◌ {A = ℕ → List ℕ} (λ k. bytes 2 (get_or a k 0)) (λ k. bytes 2 (get_or l k 0)) = fun_ext (λ k. ap (bytes 2) (h k)) in
-    rw same
 
 -- ---- the busy chargers
 
@@ -53,41 +40,17 @@ module _ (plan : List ℕ) where
   length_busy c [] = refl
   length_busy c (x ∷ xs) = rw length-append (omega (arith, two_each c x, length_busy (suc c) xs))
 
-  module _ (places : List ℕ) (c : ℕ) (h : c < length places) where
-    more : occupants (take (c + 1) places) ≡ occupants (take c places) ++ (occupant_of (get_or places c 0) ∷ [])
-    more = rw (take_more places c 0 h, map-append)
+  -- the places up to c, with who stands at c
+  pub busy_next : (places : List Occupant) (c : ℕ) (d : Occupant) → c < length places
+      → busy_blocks plan 0 (take (c + 1) places) ≡ busy_blocks plan 0 (take c places) ++ busy_at plan c (get_or places c d)
+  busy_next places c d h =
+      let long : length (take c places) ≡ c = simp length-take (omega arith) in
+      rw (take_more places c d h, busy_more, zero-add, long)
 
-    pub busy_next : busy_blocks plan 0 (occupants (take (c + 1) places)) ≡ busy_blocks plan 0 (occupants (take c places)) ++ busy_at plan c (occupant_of (get_or places c 0))
-    busy_next =
-        let long : length (occupants (take c places)) ≡ c = simp (length-map, length-take) (omega arith) in
-        rw (more, busy_more, zero-add, long)
-
-    pub count_next : count is_busy (occupants (take (c + 1) places)) ≡ count is_busy (occupants (take c places)) + tick (is_busy (occupant_of (get_or places c 0)))
-    count_next = rw (more, count-append) (omega arith)
-
-  -- two blocks more, of a charger and its vehicle
-  pub busy_laid : (c number n : ℕ) (l a : List ℕ) (x y : ℕ) → (number ≡ 0 → ⊥) → length l ≡ 2 * n → 2 * n + 1 < length a
-      → x ≡ place_of plan Charger c → y ≡ place_of plan Vehicle (number - 1) → Laid 0 l a
-      → Laid 0 (l ++ busy_at plan c (occupant_of number)) (set (set a (2 * n) x) (2 * n + 1) y)
-  busy_laid c number n l a x y some e h p q laid =
-      let v : number ≡ suc (number - 1) = omega arith in
-      let one = laid_more 0 l a (2 * n) x e (omega arith) laid in
-      let two = laid_more 0 (l ++ (x ∷ [])) (set a (2 * n) x) (2 * n + 1) y (rw length-append (omega arith)) (simp length-set (omega arith)) one in
-      rw v (rw (← p, ← q, ← append_assoc l (x ∷ []) (y ∷ [])) two)
-
-busy_few : (xs : List Occupant) → count is_busy xs ≤ length xs
-busy_few [] = omega arith
-busy_few (no_car ∷ xs) = omega (arith, busy_few xs)
-busy_few (car v ∷ xs) = omega (arith, busy_few xs)
-
--- no more chargers are busy than there are
-pub few_busy : (places : List ℕ) (c : ℕ) → count is_busy (occupants (take c places)) ≤ c
-few_busy places c = omega (arith, busy_few (occupants (take c places)), length-map (take c places) occupant_of, length-take c places)
-
--- somebody stands at a place whose number is not 0
-pub one_busy : (number : ℕ) → (number ≡ 0 → ⊥) → tick (is_busy (occupant_of number)) ≡ 1
-one_busy zero h = absurd (h refl)
-one_busy (suc v) h = refl
+  -- what one charger more adds to the blocks so far
+  pub busy_step : (places : List Occupant) (c : ℕ) (o : Occupant) (a r : List ℕ) → c < length places → get_or places c no_car ≡ o
+      → a ≡ busy_blocks plan 0 (take c places) → r ≡ a ++ busy_at plan c o → r ≡ busy_blocks plan 0 (take (c + 1) places)
+  busy_step places c o a r h e p q = q ∙ rw (p, ← e, busy_next places c no_car h)
 
 -- ---- the header is stored in its parts
 
@@ -139,9 +102,11 @@ module _ (queued busy events sessions used : ℕ) (queue chargers : List ℕ) wh
 
 -- ---- the header of a state
 
-pub state_header_lem : (plan : List ℕ) (s : State) (queued busy events sessions : ℕ) (queue chargers : List ℕ)
-    → queued ≡ length s.site.queue → busy ≡ count is_busy s.site.places → events ≡ length s.site.pending → sessions ≡ length s.site.sessions
-    → Laid 0 (queue_blocks plan s.site.queue) queue → Laid 0 (busy_blocks plan 0 s.site.places) chargers
-    → header_block queued busy events sessions s.handled queue chargers ≡ state_header plan s
-unfolding header_block
-state_header_lem plan s queued busy events sessions queue chargers a b c d l m = rw (a, b, c, d, table_laid _ queue l, table_laid _ chargers m)
+pub state_header_lem : (plan : List ℕ) (s : State) (queued busy events sessions used : ℕ) (queue chargers : List ℕ)
+    → queue ≡ queue_blocks plan s.site.queue → chargers ≡ busy_blocks plan 0 s.site.places
+    → queued ≡ length queue → busy ≡ length chargers / 2 → events ≡ length s.site.pending → sessions ≡ length s.site.sessions → used ≡ s.handled
+    → header_block queued busy events sessions used queue chargers ≡ state_header plan s
+state_header_lem plan s queued busy events sessions used queue chargers l m a b c d e =
+    let all : queued ≡ length s.site.queue = a ∙ rw (l, length-map) in
+    let half : busy ≡ count is_busy s.site.places = omega (arith, b, ap length m, length_busy plan 0 s.site.places) in
+    rw (all, half, c, d, e, l, m)

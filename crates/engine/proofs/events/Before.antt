@@ -1,5 +1,5 @@
 -- The laws of the order of events. They alone look into `before`.
-use Rattle.std.proofs.Common.{◌≡◌, ℕ, ◌+◌, ◌<◌, ◌≤◌, Bool, true, false, eqb, ltb, sym, refl, ◌∙◌, ⊎_elim, true≢false, eq-or-lt_of_le, arith, ltb-false, ltb-true, le-ltb, lt-ltb, eq-eqb, ne_eqb, eqb-true}
+use Rattle.std.proofs.Common.{◌≡◌, ℕ, ◌+◌, ◌<◌, ◌≤◌, Bool, true, false, eqb, ltb, sym, refl, ◌∙◌, ⊎_elim, true≢false, eq-or-lt_of_le, arith, ltb-false, ltb-true, le-ltb, lt-ltb, eq-eqb, ne_eqb}
 use borrow.Author.Tests.{eqb-false}
 use Rattle.engine.specs.declared.events.Event.{Event}
 use Rattle.engine.specs.Events.{arrival, renege, rank, place_of, smaller, before}
@@ -15,14 +15,6 @@ module _ (a b : ℕ) (next : Bool) where
 
   more : b < a → smaller a b next ≡ false
   more h = rw (le-ltb a b (omega arith), ne_eqb a b (omega arith))
-
-  -- what the code tests
-  differ : eqb a b ≡ false → smaller a b next ≡ ltb a b
-  differ e = go (ltb a b) refl
-    where
-      go : (t : Bool) → ltb a b ≡ t → smaller a b next ≡ t
-      go true h = less (ltb-true a b h)
-      go false h = ⊎_elim (λ (s : b ≡ a). absurd (eqb-false a b e (sym s))) more (eq-or-lt_of_le (ltb-false a b h))
 
   -- the three cases
   by_size : {P : Type 0} → (a < b → P) → (a ≡ b → P) → (b < a → P) → P
@@ -47,22 +39,6 @@ trans a b c {n} {m} {k} f h i =
 
 other : (a b : ℕ) {n m : Bool} → (a ≡ b → n ≡ false → m ≡ true) → smaller a b n ≡ false → smaller b a m ≡ true
 other a b {n} {m} f h = by_size a b n (λ l. no (sym (less a b n l) ∙ h)) (λ e. same b a m (sym e) ∙ f e (sym (same a b n e) ∙ h)) (λ g. less b a m g)
-
--- ---- what the code answers
-
-module _ (a b : Event) where
-  pub by_time : eqb a.time b.time ≡ false → ltb a.time b.time ≡ before a b
-  unfolding before
-  by_time h = sym (differ a.time b.time _ h)
-
-  pub by_rank : eqb a.time b.time ≡ true → eqb (rank a.kind) (rank b.kind) ≡ false → ltb (rank a.kind) (rank b.kind) ≡ before a b
-  unfolding before
-  by_rank h k = sym (same a.time b.time _ (eqb-true a.time b.time h) ∙ differ (rank a.kind) (rank b.kind) _ k)
-
-  pub by_place : eqb a.time b.time ≡ true → eqb (rank a.kind) (rank b.kind) ≡ true → ltb (place_of a) (place_of b) ≡ before a b
-  unfolding before
-  by_place h k =
-      sym (same a.time b.time _ (eqb-true a.time b.time h) ∙ same (rank a.kind) (rank b.kind) _ (eqb-true (rank a.kind) (rank b.kind) k))
 
 -- ---- it is strict and transitive, and total on events that differ in kind or place
 

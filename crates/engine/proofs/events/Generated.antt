@@ -1,43 +1,58 @@
 -- The events of a plan, as a loop over its vehicles pushes them.
-use Rattle.std.proofs.Common.{◌≡◌, ℕ, suc, ◌+◌, ◌*◌, ◌<◌, ◌≤◌, List, [], ◌∷◌, length, get_or, take, sym, ◌∙◌, add-one, arith, length-take, get_or-take, w64, Fits}
+use Rattle.std.proofs.Common.{◌≡◌, ℕ, suc, ◌+◌, ◌*◌, ◌<◌, ◌≤◌, List, [], ◌∷◌, length, get_or, drop, sym, refl, ap, ◌∙◌, add-one, arith, w64, Fits}
+use lib.Seq.{drop-cons}
 use Rattle.charger.specs.declared.vehicle.Vehicle.{Vehicle}
-use Rattle.charger.specs.Code.Queue.{part}
-use Rattle.charger.specs.Vehicle.{no_vehicle, vehicle_at}
-use Rattle.charger.specs.Lists.{All}
-use Rattle.charger.proofs.Lists.{all_at}
-use Rattle.charger.proofs.waiting_queue.Part.{get_d_any, part_next}
+use Rattle.charger.specs.Lists.{All, none}
 use Rattle.engine.specs.declared.events.Event.{Event}
-use Rattle.engine.specs.Code.Simulation.{events_of, InTime}
-use Rattle.engine.specs.Events.{arrival, renege, push, generate}
-use Rattle.engine.proofs.events.Order.{all_push, Upto, upto_next}
+use Rattle.engine.specs.Events.{arrival, renege, before, push, Ordered, empty, generate}
+use Rattle.engine.proofs.events.Order.{all_push, Upto, upto_arrival, upto_next}
+use Rattle.charger.proofs.Lists.{by_cond, all_at}
+use Rattle.engine.specs.Code.Simulation.{InTime}
 
-module _ (all : List Vehicle) (n v : ℕ) (d : Vehicle) (h : v < n) (k : v < length all) where
-  -- the vehicle that the array has at v is the plan's
-  pub listed_at : get_or all v d ≡ vehicle_at (take n all) v
-  listed_at = get_d_any all v d no_vehicle k ∙ sym (get_or-take n all v no_vehicle h)
+-- what the loop has made once it has come to the vehicle at v: what is left to push makes the plan's events of it
+pub record Made (all : List Vehicle) (v : ℕ) (l : List Event) : Type 0 where
+  pub upto : Upto v l
+  pub many : length l ≡ 2 * v
+  pub left : generate v (drop v all) l ≡ generate 0 all []
 
-  in_time_at : All InTime (take n all) → InTime (get_or all v d)
-  in_time_at a =
-      let inside : v < length (take n all) = simp length-take (omega arith) in
-      rw listed_at (all_at (take n all) v no_vehicle inside a)
+-- nothing is made at first
+pub made_start : (all : List Vehicle) {l : List Event} → l ≡ [] → Made all 0 l
+made_start all e = record { upto = rw e (empty, none); many = rw e; left = rw e }
 
-  pub until_fits : All InTime (take n all) → Fits w64 ((get_or all v d).arrival + (get_or all v d).wait)
+length_push : (e : Event) (l : List Event) → length (push e l) ≡ suc (length l)
+length_push e [] = refl
+length_push e (x ∷ xs) = by_cond (λ (m : List Event). length m ≡ suc (suc (length xs))) (before e x) refl (ap suc (length_push e xs))
+
+-- the vehicles as the code reads them
+module _ (all seen : List Vehicle) (same : (seen ≡ all) × (length seen ≤ 64)) (v : ℕ) (d : Vehicle) (inside : v < length seen) where
+  abbrev x : Vehicle
+  x = get_or seen v d
+
+  pub in_time_at : All InTime all → InTime x
+  in_time_at a = all_at {P = InTime} seen v d inside (rw same.0 a)
+
+  pub until_fits : All InTime all → Fits w64 (x.arrival + x.wait)
   until_fits a = omega (arith, in_time_at a)
 
--- the two events of the vehicle at v, and then those of the vehicles behind it
-generate_next : (all : List Vehicle) (n v : ℕ) (x : Vehicle) (l : List Event) → v < n → v < length all → x ≡ vehicle_at (take n all) v
-    → generate v (part v n all) l ≡ generate (v + 1) (part (v + 1) n all) (push (renege (x.arrival + x.wait) v) (push (arrival x.arrival v) l))
-generate_next all n v x l h k e = rw (e, get_or-take n all v _ h, part_next all v n no_vehicle h k, add-one v)
+  module _ {l first : List Event} (m : Made all v l) (pushed : first ≡ push (arrival x.arrival v) l) where
+    many_first : length first ≡ 2 * v + 1
+    many_first = omega (arith, ap length pushed, length_push (arrival x.arrival v) l, m.many)
 
--- the same with the events in rows: the first 2 v at first, and two more once both are put in
-pub generate_rows : (all : List Vehicle) (n v : ℕ) (x : Vehicle) (rows first both : List (List ℕ)) → v < n → v < length all → x ≡ vehicle_at (take n all) v
-    → events_of (take (2 * v + 1) first) ≡ push (arrival x.arrival v) (events_of (take (2 * v) rows))
-    → events_of (take (2 * v + 1 + 1) both) ≡ push (renege (x.arrival + x.wait) v) (events_of (take (2 * v + 1) first))
-    → (Upto v (events_of (take (2 * v) rows)) → Upto (v + 1) (events_of (take (2 * (v + 1)) both)))
-    × (generate (v + 1) (part (v + 1) n all) (events_of (take (2 * (v + 1)) both)) ≡ generate v (part v n all) (events_of (take (2 * v) rows)))
-generate_rows all n v x rows first both h k e a r =
-    let two : 2 * (v + 1) ≡ 2 * v + 1 + 1 = omega arith in
-    (λ s. rw (two, r, a, add-one v) (upto_next v x.arrival (x.arrival + x.wait) s), rw (two, r, a) (sym (generate_next all n v x _ h k e)))
+    pub room_first : length first < 192
+    room_first = omega (arith, many_first, same.1)
+
+    pub order_first : Ordered first
+    order_first = rw pushed (upto_arrival v x.arrival 0 m.upto)
+
+    pub made_next : {both : List Event} → both ≡ push (renege (x.arrival + x.wait) v) first → Made all (v + 1) both
+    made_next r =
+        let on : generate v (drop v all) l ≡ generate (suc v) (drop (suc v) all) (push (renege (x.arrival + x.wait) v) (push (arrival x.arrival v) l)) =
+        rw (← same.0, drop-cons seen v d inside) in
+        record {
+          upto = rw (r, pushed, add-one v) (upto_next v x.arrival (x.arrival + x.wait) m.upto);
+          many = omega (arith, ap length r, length_push (renege (x.arrival + x.wait) v) first, many_first);
+          left = rw (r, pushed, add-one v) (sym on) ∙ m.left;
+        }
 
 -- ---- arrivals and reneges of vehicles below n
 

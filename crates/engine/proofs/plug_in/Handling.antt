@@ -1,57 +1,34 @@
 -- What the step engine's functions come to, from what they find out.
-use Rattle.std.proofs.Common.{◌≡◌, ℕ, zero, suc, ◌+◌, ◌-◌, ◌<◌, ◌≤◌, Bool, true, false, ◌&&◌, eqb, ltb, leb, List, [], ◌∷◌, length, get_or, take, set, sym, refl, ap, ◌∙◌, ⊎_elim, eq-or-lt_of_le, arith, get_or-set_other, get_or-set_same, ltb-false, ltb-true}
-use lib.Ieee.{Float}
+use Rattle.std.proofs.Common.{◌≡◌, ℕ, ◌+◌, ◌<◌, ◌≤◌, Bool, true, false, ◌&&◌, eqb, ltb, leb, List, [], ◌∷◌, ◌++◌, length, get_or, set, sym, refl, ap, ◌∙◌, arith, length-append, length-set, ltb-false, ltb-true}
+use Rattle.std.specs.Prelude.{Some, None}
 use lib.ListN.{get_or-eq_default}
+use Rattle.arrayvec.specs.ArrayVec.{ArrayVec}
 use Rattle.charger.specs.declared.vehicle.Vehicle.{Vehicle}
 use Rattle.charger.specs.First.{Found, nobody, found, first}
 use Rattle.charger.specs.Lists.{tick, count, All, none, also}
-use Rattle.charger.proofs.waiting_queue.Part.{part_end}
 use Rattle.charger.proofs.Lists.{all_append, all_right, all_at, all_head, all_tail, all_around, Searched, missed, met, searched}
-use Rattle.charger.specs.Code.Queue.{waiting, seek}
+use Rattle.charger.specs.Code.Queue.{waiting}
 use Rattle.charger.specs.Code.Vehicles.{listed}
 use Rattle.charger.specs.Vehicle.{no_vehicle, vehicle_at}
 use Rattle.power.specs.declared.charger_state.ChargerState.{ChargerState}
 use Rattle.engine.specs.declared.events.Event.{Event}
-use Rattle.engine.specs.declared.events.EventQueue.{EventQueue}
 use Rattle.engine.specs.declared.events.EventType.{EventType}
 use Rattle.engine.specs.declared.events.EventType.TheVariants.{Arrival, Renege, Unplug}
+use Rattle.engine.specs.declared.plug_in.State.{State}
 use Rattle.engine.specs.declared.session.Session.{Session}
 use Rattle.engine.specs.declared.site.Site.{Site}
-use Rattle.engine.specs.declared.site.QueueChange.{QueueChange}
-use Rattle.engine.specs.declared.site.Simulation.{Simulation}
 use Rattle.engine.specs.Plan.{Plan, vehicle, rated}
-use Rattle.engine.specs.SiteState.{SiteState, Change, below, balks, turned, withdrawn, free_at, start_charging, with_pending, handle, popped}
+use Rattle.engine.specs.SiteState.{SiteState, Change, balks, turned, withdrawn, free_at, start_charging, with_pending, with_written, handle, popped}
 use Rattle.power.specs.ChargerState.{is_free, empty}
 use Rattle.engine.specs.Timestep.{steps, open_session, plugged, due}
 use Rattle.engine.specs.Demand.{is_arrival, is_unplug, arrives, anyone}
-use Rattle.power.specs.Code.Bank.{bank, vacant_at, Room, Stored}
-use Rattle.engine.specs.Code.Simulation.{pending, behind_first, booked, site_state, plan_of, takes, popped_first, Booked, Answers, Changed}
-use Rattle.engine.specs.Code.Steps.{RoomFor, Changes, is_due}
+use Rattle.engine.specs.Code.Events.{Queued, Pops, PopsDue, is_due}
+use Rattle.engine.specs.Code.Simulation.{pending, booked, plan_of, takes, FirstBelow, Changed}
+use Rattle.engine.specs.Code.Steps.{held, Running, Changes}
 use Rattle.engine.proofs.timestep.RunMoves.{pending_popped}
-use Rattle.power.proofs.power.Passes.{length-bank, bank-set}
-use Rattle.power.proofs.power.Gaps.{bank_at}
-use Rattle.engine.proofs.site.Simulations.{same_site, booked_sound, changed_site}
+use Rattle.engine.proofs.site.Simulations.{same_site}
 use Rattle.engine.proofs.site.Handlers.{arrival_charges, arrival-turned}
-
--- ---- the flags of the free chargers
-
-pub flags_more : (free : List Bool) (test : ℕ → Bool) (i : ℕ) (b : Bool) → i < length free → b ≡ test i → ((j : ℕ) → j < i → get_or free j false ≡ test j)
-    → (j : ℕ) → j < i + 1 → get_or (set free i b) j false ≡ test j
-flags_more free test i b h e k j l =
-    ⊎_elim
-    (λ (q : j ≡ i). rw (q, get_or-set_same free i b false h) e)
-    (λ (m : j < i). get_or-set_other free i j b false (λ (q : j ≡ i). omega arith) ∙ k j m)
-    (eq-or-lt_of_le (omega arith))
-
-module _ (t : Plan) where
-  free_get_or : (l : List ChargerState) (i : ℕ) → i < length l → free_at t (steps t) l i ≡ is_free (get_or l i empty).status
-  free_get_or [] i h = absurd (omega arith)
-  free_get_or (s ∷ l) zero h = refl
-  free_get_or (s ∷ l) (suc i) h = free_get_or l i (omega arith)
-
-  pub vacant_free : (n i : ℕ) (F : List (List Float)) (B : List (List ℕ)) → i < n → vacant_at F B i ≡ free_at t (steps t) (bank n F B) i
-  vacant_free n i F B h =
-      sym (free_get_or (bank n F B) i (rw (length-bank n F B) h) ∙ ap (λ (s : ChargerState). is_free s.status) (bank_at n i F B h))
+use Rattle.engine.proofs.site.Places.{free_at_get}
 
 -- ---- the plan
 
@@ -86,98 +63,101 @@ small_withdrawn : (vehicles : List Vehicle) (time : ℕ) {queue : List ℕ} → 
 small_withdrawn vehicles time w nobody h = w
 small_withdrawn vehicles time w (found v rest) h = h.1
 
--- ---- there is still room
-
-module _ {s r : Simulation} where
-  pub fit_booked : {x : Session} → RoomFor 1 s → Booked x s r → RoomFor 0 r
-  fit_booked f b =
-      record {
-        sound = booked_sound b f.sound (omega (arith, f.account));
-        account = rw (b.events, b.queue) (omega (arith, f.account, b.count));
-        kinds = rw b.events f.kinds;
-        coming = rw b.events f.coming;
-        waits = rw b.queue f.waits;
-      }
-
-  pub fit_changed : {change : Change} {more : ℕ} {x : QueueChange} → RoomFor more s → Answers change more s.queue x → Changed x s r → All Small change.queue → RoomFor 0 r
-  fit_changed f a b small =
-      record {
-        sound = record {
-          order = rw b.events f.sound.order;
-          events = rw b.events f.sound.events;
-          queued = rw b.queue (omega (arith, f.account, a.count));
-          sessions = omega (arith, f.account, a.count, b.count);
-        };
-        account = rw (b.events, b.queue) (omega (arith, f.account, a.count, b.count));
-        kinds = rw b.events f.kinds;
-        coming = rw b.events f.coming;
-        waits = rw (b.queue, ap (λ (c : Change). c.queue) a.same) small;
-      }
-
 -- ---- a vehicle takes a charger
 
-module _ (site : Site) (rows : List (List Bool)) (time v c : ℕ) {s r : Simulation} {F F' : List (List Float)} {B B' : List (List ℕ)} where
-  pub starts : {x : Session} {state : ChargerState} → RoomFor 1 s → c < site.count → length (booked s.sessions) ≡ s.sessions.len → Booked x s r → Stored c state F B F' B'
-      → x ≡ open_session (vehicle_at (listed site.vehicles) v) time v c
-      → ((curves : List (List Float)) (lens : List ℕ) → (let p = plan_of site rows curves lens in
-      state ≡ plugged (vehicle p v) (p.battery (vehicle p v).profile) (rated p v c) v s.sessions.len))
-      → Changes site rows (λ t. start_charging t (steps t) time v c) s r F B F' B'
+module _ (site : Site) (time v c : ℕ) (x : Session) (state : ChargerState) {s r : State} where
+  pub starts : Running site 1 s → x ≡ open_session (vehicle_at (listed site.vehicles) v) time v c
+      → (let p = plan_of site in state ≡ plugged (vehicle p v) (p.battery (vehicle p v).profile) (rated p v c) v (length (booked s.simulation.sessions)))
+      → r.simulation.events ≡ s.simulation.events → r.simulation.queue ≡ s.simulation.queue → booked r.simulation.sessions ≡ booked s.simulation.sessions ++ (x ∷ [])
+      → r.bank.items ≡ set s.bank.items c state
+      → Changes site (λ t. start_charging t (steps t) time v c) s r
   unfolding start_charging
-  starts f h l b w e g =
+  starts f is-session is-state same-events same-queue more stands =
       record {
-        state = λ curves lens.
-            same_site
-            (ap pending b.events)
-            (ap waiting b.queue)
-            (bank-set w site.count h ∙ rw (l, g curves lens))
-            (b.sessions ∙ rw e);
-        fit = fit_booked f b;
-        events = b.events;
+        state = same_site (ap pending same-events) (ap waiting same-queue) (stands ∙ ap (set s.bank.items c) is-state) (more ∙ ap (λ (y : Session). booked s.simulation.sessions ++ (y ∷ [])) is-session);
+        fit = record {
+          within = f.within;
+          room = record {
+            account = rw (same-events, same-queue, more, length-append) (omega (arith, f.room.account));
+            kinds = rw same-events f.room.kinds;
+            coming = rw same-events f.room.coming;
+            waits = rw same-queue f.room.waits;
+          };
+          places = rw (stands, length-set) f.places;
+        };
+        events = same-events;
       }
 
--- ---- an arrival, for which the search for a charger stopped at k
+-- ---- a vehicle that takes no charger
 
-module _ (site : Site) (rows : List (List Bool)) (time v k : ℕ) (x : Vehicle) (free : List Bool) (s : Simulation) (F : List (List Float)) (B : List (List ℕ))
-    (few : length (take site.count site.chargers) ≡ site.count) (who : x ≡ vehicle_at (listed site.vehicles) v)
-    (flags : (i : ℕ) → i < site.count → get_or free i false ≡ vacant_at F B i) (found_at : k ≡ seek (takes free (take site.count rows) x) (below site.count)) where
-  flagged : (t : Plan) → length t.chargers ≡ site.count → (i : ℕ) → i < length t.chargers → get_or free i false ≡ free_at t (steps t) (bank site.count F B) i
-  flagged t e i h = flags i (omega arith) ∙ vacant_free t site.count i F B (omega arith)
+module _ (site : Site) {change : Change} {s r : State} (b : Changed change s.simulation r.simulation) (same : r.bank ≡ s.bank) where
+  changed_held : held r ≡ record { pending = pending s.simulation.events; queue = change.queue; places = s.bank.items; sessions = with_written change.written (booked s.simulation.sessions) }
+  changed_held = same_site (ap pending b.events) b.queue (ap (λ (l : ArrayVec ChargerState). l.items) same) b.sessions
 
-  stopped : (t : Plan) → length t.chargers ≡ site.count → t.connectors ≡ take site.count rows → k ≡ seek (takes free t.connectors x) (below (length t.chargers))
-  stopped t e c = rw (e, c) found_at
-
-  pub arrives-charging : {r : Simulation} {F' : List (List Float)} {B' : List (List ℕ)} → k < site.count → Changes site rows (λ t. start_charging t (steps t) time v k) s r F B F' B'
-      → Changes site rows (λ t. handle t (steps t) Arrival time v 0) s r F B F' B'
-  arrives-charging h d =
+  fit_changed : {more : ℕ} → Running site more s → length change.queue + length (with_written change.written (booked s.simulation.sessions)) ≤ length (waiting s.simulation.queue) + length (booked s.simulation.sessions) + more
+      → All Small change.queue → Running site 0 r
+  fit_changed f fewer small =
       record {
-        state = λ curves lens.
-            let t = plan_of site rows curves lens in
-            d.state curves lens
-            ∙ sym (arrival_charges t (steps t) (site_state s (bank site.count F B)) time v 0 free x k (flagged t few) who (stopped t few refl) (rw few h));
-        fit = d.fit;
-        events = d.events;
+        within = f.within;
+        room = record {
+          account = rw (b.events, b.queue, b.sessions) (omega (arith, f.room.account));
+          kinds = rw b.events f.room.kinds;
+          coming = rw b.events f.room.coming;
+          waits = rw b.queue small;
+        };
+        places = rw same f.places;
       }
 
-  pub arrives-turned : {change : QueueChange} {r : Simulation} → site.count ≤ k → v < 64 → RoomFor 1 s
-      → Answers (turned v (waiting s.queue) (balks (listed site.vehicles) site.vehicles.queue_places v (waiting s.queue))) 1 s.queue change → Changed change s r
-      → Changes site rows (λ t. handle t (steps t) Arrival time v 0) s r F B F B
-  arrives-turned h small f a b =
+fewer_turned : (v : ℕ) (queue : List ℕ) (xs : List Session) (b : Bool) → length (turned v queue b).queue + length (with_written (turned v queue b).written xs) ≤ length queue + length xs + 1
+fewer_turned v queue xs true = rw length-append (omega arith)
+fewer_turned v queue xs false = rw length-append (omega arith)
+
+-- ---- an arrival
+
+module _ (site : Site) (time v : ℕ) (free : List Bool) (x : Vehicle) (s : State) (f : Running site 1 s)
+    (flags : (i : ℕ) → i < length s.bank.items → get_or free i false ≡ is_free (get_or s.bank.items i empty).status) (who : x ≡ vehicle_at (listed site.vehicles) v) where
+  abbrev p : Plan
+  p = plan_of site
+
+  flagged : (i : ℕ) → i < length p.chargers → get_or free i false ≡ free_at p (steps p) s.bank.items i
+  flagged i h = flags i (omega (arith, f.places)) ∙ sym (free_at_get p (steps p) s.bank.items i empty (omega (arith, f.places)))
+
+  pub arrives_charging : {r : State} (k : ℕ) → FirstBelow (takes free p.connectors x) (length p.chargers) (Some k) → Changes site (λ t. start_charging t (steps t) time v k) s r
+      → Changes site (λ t. handle t (steps t) Arrival time v 0) s r
+  arrives_charging k at d =
+      record { state = d.state ∙ sym (arrival_charges p (steps p) (held s) time v 0 free x flagged who k at); fit = d.fit; events = d.events }
+
+  pub arrives-turned : {r : State} → FirstBelow (takes free p.connectors x) (length p.chargers) None → v < 64
+      → Changed (turned v (waiting s.simulation.queue) (balks p.vehicles p.queue_places v (waiting s.simulation.queue))) s.simulation r.simulation → r.bank ≡ s.bank
+      → Changes site (λ t. handle t (steps t) Arrival time v 0) s r
+  arrives-turned at small b same =
+      let balk = balks p.vehicles p.queue_places v (waiting s.simulation.queue) in
       record {
-        state = λ curves lens.
-            let t = plan_of site rows curves lens in
-            changed_site b (bank site.count F B) a.same
-            ∙ sym (arrival-turned t (steps t) (site_state s (bank site.count F B)) time v 0 free x k (flagged t few) who (stopped t few refl) (rw few h));
-        fit = fit_changed f a b (small_turned small f.waits (balks (listed site.vehicles) site.vehicles.queue_places v (waiting s.queue)));
+        state = changed_held site b same ∙ sym (arrival-turned p (steps p) (held s) time v 0 free x flagged who at);
+        fit = fit_changed site b same f (fewer_turned v (waiting s.simulation.queue) (booked s.simulation.sessions) balk) (small_turned small f.room.waits balk);
         events = b.events;
       }
 
 -- ---- a renege
 
-pub reneges : (site : Site) (rows : List (List Bool)) (time v c : ℕ) {s r : Simulation} {change : QueueChange} (F : List (List Float)) (B : List (List ℕ)) → RoomFor 0 s
-    → Answers (withdrawn (listed site.vehicles) time (waiting s.queue) (first (eqb v) (waiting s.queue))) 0 s.queue change → Changed change s r
-    → Changes site rows (λ t. handle t (steps t) Renege time v c) s r F B F B
-reneges site rows time v c {s} F B f a b =
-    record { state = λ curves lens. changed_site b (bank site.count F B) a.same; fit = fit_changed f a b (small_withdrawn (listed site.vehicles) time f.waits (first (eqb v) (waiting s.queue)) (small_first (eqb v) f.waits)); events = b.events }
+fewer_withdrawn : (vehicles : List Vehicle) (time : ℕ) (test : ℕ → Bool) (queue : List ℕ) (xs : List Session)
+    → let c = withdrawn vehicles time queue (first test queue) in length c.queue + length (with_written c.written xs) ≤ length queue + length xs + 0
+fewer_withdrawn vehicles time test queue xs = go (searched test queue)
+  where
+    go : {f : Found} → Searched test queue f → let c = withdrawn vehicles time queue f in length c.queue + length (with_written c.written xs) ≤ length queue + length xs + 0
+    go (missed h) = omega arith
+    go (met s v t h e q) = simp length-append (omega (arith, simp length-append at (ap length q)))
+
+pub reneges : (site : Site) (time v c : ℕ) {s r : State} → Running site 0 s
+    → Changed (withdrawn (listed site.vehicles) time (waiting s.simulation.queue) (first (eqb v) (waiting s.simulation.queue))) s.simulation r.simulation → r.bank ≡ s.bank
+    → Changes site (λ t. handle t (steps t) Renege time v c) s r
+reneges site time v c {s} f b same =
+    record {
+      state = changed_held site b same;
+      fit = fit_changed site b same f (fewer_withdrawn (listed site.vehicles) time (eqb v) (waiting s.simulation.queue) (booked s.simulation.sessions))
+          (small_withdrawn (listed site.vehicles) time f.room.waits (first (eqb v) (waiting s.simulation.queue)) (small_first (eqb v) f.room.waits));
+      events = b.events;
+    }
 
 not_true : {A : Type 0} → false ≡ true → A
 not_true {A} e = absurd (let n : ◌≡◌ {A = ℕ} 0 1 = cc in omega arith)
@@ -187,42 +167,36 @@ unplug_never k e h = not_true (sym h ∙ ap is_unplug e)
 
 -- ---- the events due
 
--- one is due only if one is pending
-pub due_some : (now : ℕ) (q : EventQueue) → is_due now (pending q) ≡ true → q.head < q.tail
-due_some now q h = go (ltb q.head q.tail) refl
-  where
-    go : (b : Bool) → ltb q.head q.tail ≡ b → q.head < q.tail
-    go true e = ltb-true q.head q.tail e
-    go false e = not_true (rw (part_end q.all q.head q.tail (ltb-false q.head q.tail e)) at h)
+-- the state with that queue of events
+abbrev pub behind : State → Queued → State
+behind s q = record { simulation = record { events = q; queue = s.simulation.queue; sessions = s.simulation.sessions }; bank = s.bank }
 
--- there is room for who arrives now
-pub fit_popped : (s : Simulation) (e : Event) → RoomFor 0 s → s.events.head < s.events.tail → pending s.events ≡ e ∷ pending (behind_first s.events)
-    → RoomFor (tick (is_arrival e.kind)) (popped_first s)
-fit_popped s e f h p =
-    let all = rw p at f.kinds in
-    let room = rw p at f.account in
-    record {
-      sound = record { order = omega arith; events = f.sound.events; queued = f.sound.queued; sessions = f.sound.sessions };
-      account = by_kind (is_arrival e.kind) room;
-      kinds = all_tail all;
-      coming = all_tail (rw p at f.coming);
-      waits = f.waits;
-    }
-  where
-    by_kind : (b : Bool) → tick (b && true) + count (arrives anyone) (pending (behind_first s.events)) + s.queue.len + s.sessions.len + 0 ≤ 64
-        → count (arrives anyone) (pending (behind_first s.events)) + s.queue.len + s.sessions.len + tick b ≤ 64
-    by_kind true k = omega arith
-    by_kind false k = omega arith
+-- once the first event is popped there is room for who arrives now
+module _ (site : Site) (s : State) (q : Queued) (e : Event) (f : Running site 0 s) (p : Pops s.simulation.events q (Some e)) where
+  pub fit_popped : Running site (tick (is_arrival e.kind)) (behind s q)
+  fit_popped =
+      let room = rw p.0 at f.room.account in
+      record {
+        within = f.within;
+        room = record {
+          account = by_kind (is_arrival e.kind) room;
+          kinds = all_tail (rw p.0 at f.room.kinds);
+          coming = all_tail (rw p.0 at f.room.coming);
+          waits = f.room.waits;
+        };
+        places = f.places;
+      }
+    where
+      by_kind : (b : Bool) → tick (b && true) + count (arrives anyone) (pending q) + length (waiting s.simulation.queue) + length (booked s.simulation.sessions) + 0 ≤ 64
+          → count (arrives anyone) (pending q) + length (waiting s.simulation.queue) + length (booked s.simulation.sessions) + tick b ≤ 64
+      by_kind true k = omega arith
+      by_kind false k = omega arith
 
--- and one event less
-pub popped_less : (q p : EventQueue) → p ≡ behind_first q → q.head < q.tail → p.tail - p.head < q.tail - q.head
-popped_less q p e h = rw e (omega arith)
+  pub no_unplug : is_unplug e.kind ≡ false
+  no_unplug = all_head (rw p.0 at f.room.kinds)
 
-pub no_unplug : (s : Simulation) (e : Event) → RoomFor 0 s → pending s.events ≡ e ∷ pending (behind_first s.events) → is_unplug e.kind ≡ false
-no_unplug s e f p = all_head (rw p at f.kinds)
-
-pub comes : (s : Simulation) (e : Event) → RoomFor 0 s → pending s.events ≡ e ∷ pending (behind_first s.events) → e.vehicle < 64
-comes s e f p = all_head (rw p at f.coming)
+  pub comes : e.vehicle < 64
+  comes = all_head (rw p.0 at f.room.coming)
 
 module _ (t : Plan) where
   abbrev pub due_now : ℕ → SiteState ChargerState → SiteState ChargerState
@@ -245,7 +219,22 @@ module _ (t : Plan) where
       go [] h = refl
       go (e ∷ es) h = rw h
 
--- ---- the bank keeps its room
+  -- one that was due is handled
+  pub due_step : (now : ℕ) (s : State) (q : Queued) (e : Event) (r : State) → PopsDue now s.simulation.events q (Some e)
+      → held r ≡ handle t (steps t) e.kind e.time e.vehicle e.charger (held (behind s q)) → due_now now (held r) ≡ due_now now (held s)
+  due_step now s q e r p h = due_more now (held s) (held r) e (pending q) p.1.0 p.0 h
 
-pub room_kept : {n : ℕ} {F F' : List (List Float)} {B B' : List (List ℕ)} → Room n F B → length F' ≡ length F → length B' ≡ length B → Room n F' B'
-room_kept r e k = record { float_rows = rw e r.float_rows; byte_rows = rw k r.byte_rows }
+  -- and none is left
+  module _ (now : ℕ) (s : State) (q : Queued) (p : PopsDue now s.simulation.events q None) where
+    pub due_last : held (behind s q) ≡ due_now now (held s)
+    due_last = rw p.1 (sym (due_none now (held s) p.0))
+
+    pub none_due : is_due now (pending q) ≡ false
+    none_due = rw p.1 p.0
+
+pub fit_last : (site : Site) (now : ℕ) (s : State) (q : Queued) → PopsDue now s.simulation.events q None → Running site 0 s → Running site 0 (behind s q)
+fit_last site now s q p f = rw p.1 f
+
+-- and one event less
+pub popped_less : (s r : State) (q : Queued) (e : Event) → Pops s.simulation.events q (Some e) → r.simulation.events ≡ q → length (pending r.simulation.events) < length (pending s.simulation.events)
+popped_less s r q e p same = rw (same, p.0) (omega arith)

@@ -1,15 +1,14 @@
 -- What an event comes to, from what the code finds out: for both engines.
-use Rattle.std.proofs.Common.{◌≡◌, ℕ, ◌<◌, ◌≤◌, Bool, false, List, length, get_or, replicate, sym, refl, ap, ◌∙◌, le-ltb, lt-ltb}
+use Rattle.std.proofs.Common.{◌≡◌, ℕ, ◌<◌, Bool, false, List, length, get_or, replicate, sym, refl, ◌∙◌, arith}
 use Rattle.charger.specs.declared.vehicle.Vehicle.{Vehicle}
 use Rattle.charger.specs.First.{nobody, found, first}
-use Rattle.charger.specs.Code.Queue.{seek, taken_at}
-use Rattle.charger.proofs.waiting_queue.Part.{first_taken}
+use Rattle.std.specs.Prelude.{Some, None}
 use Rattle.engine.specs.declared.events.EventType.TheVariants.{Arrival}
 use Rattle.engine.specs.declared.site.Simulation.{Simulation}
 use Rattle.engine.specs.Plan.{Plan, vehicle, fits}
-use Rattle.engine.specs.SiteState.{Engine, SiteState, below, balks, with_queue, turned_away, initial, freed, start_charging, free_at, available, release, handle}
-use Rattle.engine.specs.Code.Simulation.{site_state, takes, Starts}
-use Rattle.engine.proofs.site.Places.{length-below, place_at, seek_same}
+use Rattle.engine.specs.SiteState.{Engine, SiteState, balks, with_queue, turned_away, initial, freed, start_charging, free_at, available, release, handle}
+use Rattle.engine.specs.Code.Simulation.{site_state, takes, FirstBelow, Starts}
+use Rattle.engine.proofs.site.Places.{below_missed, below_met}
 use Rattle.engine.proofs.site.Simulations.{same_site}
 
 module _ (p : Plan) {A : Type 0} (g : Engine A) where
@@ -17,25 +16,21 @@ module _ (p : Plan) {A : Type 0} (g : Engine A) where
   pub starts : {r : Simulation} → Starts p.vehicles r → site_state r (replicate (length p.chargers) g.empty) ≡ initial p g
   starts s = same_site s.pending s.queue refl s.sessions
 
-  -- ---- an arrival, where the search for a charger by the flags `free` stopped at k
-  module _ (f : SiteState A) (time v c : ℕ) (free : List Bool) (x : Vehicle) (k : ℕ)
-      (same : (i : ℕ) → i < length p.chargers → get_or free i false ≡ free_at p g f.places i)
-      (who : x ≡ vehicle p v) (at : k ≡ seek (takes free p.connectors x) (below (length p.chargers))) where
+  -- ---- an arrival, where the flags `free` say which chargers are free
+  module _ (f : SiteState A) (time v c : ℕ) (free : List Bool) (x : Vehicle)
+      (same : (i : ℕ) → i < length p.chargers → get_or free i false ≡ free_at p g f.places i) (who : x ≡ vehicle p v) where
     taken_available : (i : ℕ) → i < length p.chargers → takes free p.connectors x i ≡ available p g f v i
     unfolding fits
     taken_available i h = rw (same i h, who)
 
-    chargers_found : first (available p g f v) (below (length p.chargers)) ≡ taken_at k (below (length p.chargers))
-    chargers_found =
-        first_taken (available p g f v) (below (length p.chargers))
-        ∙ ap (λ (n : ℕ). taken_at n (below (length p.chargers))) (sym (at ∙ seek_same (takes free p.connectors x) (available p g f v) (length p.chargers) taken_available))
+    -- the search for a charger found one
+    pub arrival_charges : (k : ℕ) → FirstBelow (takes free p.connectors x) (length p.chargers) (Some k) → handle p g Arrival time v c f ≡ start_charging p g time v k f
+    arrival_charges k h =
+        rw (below_met (available p g f v) (length p.chargers) k h.0 (sym (taken_available k h.0) ∙ h.1) (λ i l. sym (taken_available i (omega (arith, h.0))) ∙ h.2 i l))
 
-    pub arrival_charges : k < length p.chargers → handle p g Arrival time v c f ≡ start_charging p g time v k f
-    arrival_charges h =
-        rw (chargers_found, length-below (length p.chargers), lt-ltb k (length p.chargers) h, place_at (length p.chargers) k h)
-
-    pub arrival-turned : length p.chargers ≤ k → handle p g Arrival time v c f ≡ turned_away v f (balks p.vehicles p.queue_places v f.queue)
-    arrival-turned h = rw (chargers_found, length-below (length p.chargers), le-ltb k (length p.chargers) h)
+    -- or none
+    pub arrival-turned : FirstBelow (takes free p.connectors x) (length p.chargers) None → handle p g Arrival time v c f ≡ turned_away v f (balks p.vehicles p.queue_places v f.queue)
+    arrival-turned h = rw (below_missed (available p g f v) (length p.chargers) (λ i l. sym (taken_available i l) ∙ h i l))
 
   -- ---- a freed charger, by what was popped off the queue
   module _ (f : SiteState A) (time c : ℕ) where

@@ -1,16 +1,16 @@
--- The list of the places below n, as a loop that counts up to n meets it.
-use Rattle.std.proofs.Common.{◌≡◌, ℕ, zero, suc, ◌+◌, ◌<◌, ◌≤◌, Bool, true, false, ◌&&◌, List, [], ◌∷◌, length, get_or, take, replicate, refl, ◌∙◌, ⊎_elim, le_of_suc-le-suc, not-suc-le-zero, eq-or-lt_of_le, arith, length-append, take_all}
+-- The list of the places below n, as a search of the places meets it, and the flags of those that are free.
+use Rattle.std.proofs.Common.{◌≡◌, ℕ, zero, suc, ◌+◌, ◌<◌, Bool, true, false, List, [], ◌∷◌, length, get_or, set, refl, ap, ◌∙◌, ⊎_elim, le_of_suc-le-suc, not-suc-le-zero, eq-or-lt_of_le, arith, length-append, le-ltb, lt-ltb, get_or-set_other, get_or-set_same}
+use Rattle.std.specs.Prelude.{Some, None, not}
+use Rattle.std.specs.Option.{is_some}
+use Rattle.engine.specs.Discrete.{Occupant, is_vacant}
+use Rattle.std.specs.List.{position_or_len, remove}
+use Rattle.std.proofs.lemmas.List.Sums.{position_or_len_is}
 use lib.ListN.{get_or-append}
 use lib.Seq.{get_or_at}
-use Rattle.charger.specs.declared.vehicle.Vehicle.{Vehicle}
-use Rattle.charger.specs.Code.Queue.{part, seek}
-use Rattle.charger.specs.Lists.{All, none, also}
-use Rattle.charger.specs.Vehicle.{compatible}
-use Rattle.charger.proofs.Lists.{all_append}
-use Rattle.charger.proofs.waiting_queue.Part.{seek_here, seek_on, seek_end}
-use Rattle.engine.specs.SiteState.{below}
-use Rattle.engine.specs.Code.Simulation.{takes}
-use Rattle.engine.proofs.site.At.{at_inside}
+use Rattle.charger.specs.First.{nobody, found, first}
+use Rattle.charger.proofs.waiting_queue.Taken.{first_at}
+use Rattle.engine.specs.Plan.{Plan}
+use Rattle.engine.specs.SiteState.{Engine, below, free_at}
 
 pub length-below : (n : ℕ) → length (below n) ≡ n
 length-below zero = refl
@@ -24,34 +24,40 @@ place_at (suc n) i h =
     (λ (l : i < n). get_or-append (below n) (n ∷ []) 0 i (omega (arith, length-below n)) ∙ place_at n i l)
     (eq-or-lt_of_le (le_of_suc-le-suc h))
 
--- a search of the places by a loop over i
+-- the first below n that passes is what a search of the places finds
 module _ (test : ℕ → Bool) (n : ℕ) where
-  pub search_start : seek test (below n) ≡ 0 + seek test (part 0 n (below n))
-  search_start = rw (take_all n (below n) (omega (arith, length-below n))) (omega arith)
+  pub below_missed : ((k : ℕ) → k < n → test k ≡ false) → first test (below n) ≡ nobody
+  below_missed h =
+      let end : position_or_len test (below n) ≡ n =
+      position_or_len_is test (below n) n 0 (omega (arith, length-below n)) (λ k l. rw (place_at n k l) (h k l)) (λ l. absurd (omega (arith, length-below n))) in
+      first_at test (below n) 0 ∙ rw (le-ltb (position_or_len test (below n)) (length (below n)) (omega (arith, end, length-below n)))
 
-  module _ (i : ℕ) where
-    pub search_here : i < n → test i ≡ true → seek test (part i n (below n)) ≡ 0
-    search_here h t = seek_here test (below n) i n 0 h (omega (arith, length-below n)) (rw (place_at n i h) t)
+  pub below_met : (c : ℕ) → c < n → test c ≡ true → ((k : ℕ) → k < c → test k ≡ false) → first test (below n) ≡ found c (remove (below n) c)
+  below_met c l t h =
+      let here : position_or_len test (below n) ≡ c =
+      position_or_len_is test (below n) c 0 (omega (arith, length-below n)) (λ k m. rw (place_at n k (omega arith)) (h k m)) (λ m. rw (place_at n c l) t) in
+      first_at test (below n) 0
+      ∙ rw (lt-ltb (position_or_len test (below n)) (length (below n)) (omega (arith, here, length-below n))) (ap (λ (i : ℕ). found (get_or (below n) i 0) (remove (below n) i)) here ∙ ap (λ (v : ℕ). found v (remove (below n) c)) (place_at n c l))
 
-    pub search_on : i < n → test i ≡ false → seek test (part i n (below n)) ≡ suc (seek test (part (i + 1) n (below n)))
-    search_on h t = seek_on test (below n) i n 0 h (omega (arith, length-below n)) (rw (place_at n i h) t)
+-- ---- the flags of the free chargers
 
-    pub search_end : n ≤ i → seek test (part i n (below n)) ≡ 0
-    search_end h = seek_end test (below n) i n 0 h
+pub flags_more : (free : List Bool) (test : ℕ → Bool) (i : ℕ) (b : Bool) → i < length free → b ≡ test i → ((j : ℕ) → j < i → get_or free j false ≡ test j)
+    → (j : ℕ) → j < i + 1 → get_or (set free i b) j false ≡ test j
+flags_more free test i b h e k j l =
+    ⊎_elim
+    (λ (q : j ≡ i). rw (q, get_or-set_same free i b false h) e)
+    (λ (m : j < i). get_or-set_other free i j b false (λ (q : j ≡ i). omega arith) ∙ k j m)
+    (eq-or-lt_of_le (omega arith))
 
--- the charger at c as the code reads it
-pub takes_at : (free : List Bool) (rows : List (List Bool)) (x : Vehicle) (n c : ℕ) → c < n → c < length free → c < length rows
-    → takes free (take n rows) x c ≡ (get_or free c false && compatible (get_or rows c []) x)
-takes_at free rows x n c h k l = rw (← at_inside rows n c [] (replicate 5 false) h l)
+-- a charger is free by what stands there
+pub free_at_get : (p : Plan) {A : Type 0} (g : Engine A) (l : List A) (i : ℕ) (d : A) → i < length l → free_at p g l i ≡ g.is_free (get_or l i d)
+free_at_get p g [] i d h = absurd (omega arith)
+free_at_get p g (s ∷ l) zero d h = refl
+free_at_get p g (s ∷ l) (suc i) d h = free_at_get p g l i d (omega arith)
 
-pub all_below : {P : ℕ → Type 0} (n : ℕ) → ((c : ℕ) → c < n → P c) → All P (below n)
-all_below zero h = none
-all_below (suc n) h = all_append (all_below n (λ c l. h c (omega arith))) (also (h n (omega arith)) none)
-
-seek_all : (test other : ℕ → Bool) {xs : List ℕ} → All (λ c. test c ≡ other c) xs → seek test xs ≡ seek other xs
-seek_all test other none = refl
-seek_all test other (also h hs) = rw (h, seek_all test other hs)
-
--- a search goes by what the test says of the places below n
-pub seek_same : (test other : ℕ → Bool) (n : ℕ) → ((c : ℕ) → c < n → test c ≡ other c) → seek test (below n) ≡ seek other (below n)
-seek_same test other n same = seek_all test other (all_below n same)
+-- who stands nowhere, as the code asks it
+pub vacant_none : (o other : Occupant) (b : Bool) → o ≡ other → is_some o ≡ not b → b ≡ is_vacant other
+vacant_none o None true e h = refl
+vacant_none o None false e h = rw e at h
+vacant_none o (Some v) true e h = rw e at h
+vacant_none o (Some v) false e h = refl

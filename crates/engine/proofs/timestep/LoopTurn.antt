@@ -1,13 +1,13 @@
 -- A turn of the run's loop: the rounds up to the next event or the first finished charger, at once.
-use Rattle.std.proofs.Common.{◌≡◌, ℕ, zero, suc, ◌+◌, ◌-◌, ◌<◌, ◌≤◌, Bool, true, false, cond, ◌&&◌, leb, List, [], ◌∷◌, sym, refl, ap, ◌∙◌, arith, leb-false, leb-true}
-use lib.Ieee.{Float}
+use Rattle.std.proofs.Common.{◌≡◌, ℕ, zero, suc, ◌+◌, ◌-◌, ◌<◌, ◌≤◌, Bool, true, false, cond, ◌&&◌, leb, List, [], ◌∷◌, length, sym, refl, ap, ◌∙◌, subst, arith, leb-false, leb-true}
+use Rattle.arrayvec.specs.ArrayVec.{ArrayVec}
 use Rattle.curve.specs.declared.points.Point.{Point}
 use Rattle.power.specs.declared.charger_state.ChargerState.{ChargerState}
 use Rattle.engine.specs.declared.events.Event.{Event}
 use Rattle.power.specs.declared.power.Spun as D
 use Rattle.power.specs.declared.power.Limit.{Limit}
 use Rattle.engine.specs.declared.site.Site.{Site}
-use Rattle.engine.specs.declared.site.Simulation.{Simulation}
+use Rattle.engine.specs.declared.plug_in.State.{State as Stands}
 use Rattle.charger.specs.Code.Profiles.{curve_at}
 use Rattle.engine.specs.Plan.{Plan}
 use Rattle.engine.specs.SiteState.{SiteState, is_empty}
@@ -15,9 +15,11 @@ use Rattle.power.specs.Power.{charge}
 use Rattle.power.specs.Code.Rounds.{any_finished, Spun, spin}
 use Rattle.engine.specs.Timestep.{State, due, with_closed, release_finished, round, ended, after}
 use Rattle.power.specs.ChargerState.{all_free}
-use Rattle.power.specs.Code.Bank.{bank, spun}
-use Rattle.engine.specs.Code.Simulation.{pending, site_state, plan_of}
-use Rattle.engine.specs.Code.Steps.{RoomFor, Changes, is_due, next_time, step_state, GoesOn}
+use Rattle.power.specs.Code.Bank.{spun}
+use Rattle.engine.specs.Code.Simulation.{pending, plan_of}
+use Rattle.engine.specs.Code.Events.{is_due, next_time}
+use Rattle.engine.specs.Code.Steps.{held, Running, Changes, step_state, GoesOn}
+use Rattle.power.proofs.power.SameCars.{same_size, same_charged}
 use Rattle.engine.proofs.timestep.Units.{free_closed, free_finished_lem, goes_on}
 use Rattle.power.proofs.charger_state.Vacant.{and_left, and_right, free_charge}
 use Rattle.engine.proofs.timestep.Quiet.{NoneDue, landed, Landed, spin_lands}
@@ -52,6 +54,15 @@ module _ (limit : Limit) (curve : ℕ → List Point) where
           → (cond b (record { states = charge limit curve ss; rounds = done + 1; any = true }) (spin limit curve (done + 1) k (charge limit curve ss))).rounds ≤ done + suc k
       go true h = omega arith
       go false h = omega arith
+
+  spin_size : (done k : ℕ) (ss : List ChargerState) → length (spin limit curve done k ss).states ≡ length ss
+  spin_size done zero ss = refl
+  spin_size done (suc k) ss = go (any_finished false (charge limit curve ss)) (spin_size (done + 1) k (charge limit curve ss)) (same_size (same_charged limit curve ss))
+    where
+      go : (b : Bool) → length (spin limit curve (done + 1) k (charge limit curve ss)).states ≡ length (charge limit curve ss) → length (charge limit curve ss) ≡ length ss
+          → length (cond b (record { states = charge limit curve ss; rounds = done + 1; any = true }) (spin limit curve (done + 1) k (charge limit curve ss))).states ≡ length ss
+      go true h e = e
+      go false h e = h ∙ e
 
 -- ---- up to the next event none is due
 
@@ -121,67 +132,84 @@ module _ (t : Plan) where
 
 -- ---- with no event due the rounds spin on
 
-module _ (site : Site) (rows : List (List Bool)) (curves : List (List Float)) (lens : List ℕ) (now last next : ℕ) (s : Simulation) (F : List (List Float)) (B : List (List ℕ)) (F' : List (List Float)) (B' : List (List ℕ)) (r : D.Spun)
-    (before : now < last) (none : is_due now (pending s.events) ≡ false)
-    (going : ended (plan_of site rows curves lens) (step_state site.count s F B now) ≡ false)
-    (upto : next ≡ next_time last (pending s.events))
-    (turns : spun (bank site.count F' B') r ≡ spin site.limit (curve_at curves lens) 0 (next - now) (bank site.count F B)) where
-  abbrev plan : Plan
-  plan = plan_of site rows curves lens
+-- the state with those chargers
+abbrev pub rebanked : Stands → ArrayVec ChargerState → Stands
+rebanked s b = record { simulation = s.simulation; bank = b }
 
-  reaches : Next now last next (pending s.events)
-  reaches = next_quiet now last next (pending s.events) before none upto
+rebanked_as : (s t : Stands) → t.simulation ≡ s.simulation → rebanked s t.bank ≡ t
+rebanked_as s t e = λ i. record { simulation = sym e i; bank = t.bank }
+
+module _ (site : Site) (now last next : ℕ) (s t : Stands) (rest : t.simulation ≡ s.simulation) (r : D.Spun)
+    (before : now < last) (none : is_due now (pending s.simulation.events) ≡ false)
+    (going : ended (plan_of site) (step_state s now) ≡ false)
+    (upto : next ≡ next_time last (pending s.simulation.events))
+    (turns : spun t.bank.items r ≡ spin site.limit (curve_at site.curves site.lens) 0 (next - now) s.bank.items) where
+  abbrev plan : Plan
+  plan = plan_of site
+
+  reaches : Next now last next (pending s.simulation.events)
+  reaches = next_quiet now last next (pending s.simulation.events) before none upto
 
   numbers : (0 < r.rounds) × (now + r.rounds ≤ last)
-  numbers = counted site.limit (curve_at curves lens) (bank site.count F B) now last next r.rounds reaches (ap (λ (p : Spun). p.rounds) turns)
+  numbers = counted site.limit (curve_at site.curves site.lens) s.bank.items now last next r.rounds reaches (ap (λ (p : Spun). p.rounds) turns)
 
-  spent : after plan (last - now) (step_state site.count s F B now)
-      ≡ after plan (last - (now + r.rounds)) (landed plan r.rounds (spun (bank site.count F' B') r) (step_state site.count s F B now))
+  spent : after plan (last - now) (step_state s now)
+      ≡ after plan (last - (now + r.rounds)) (landed plan r.rounds (spun t.bank.items r) (step_state s now))
   spent =
       let until : now + (next - now) ≡ next = omega (arith, reaches.later) in
-      let l : Landed plan (last - (now + r.rounds)) 0 (step_state site.count s F B now) (spun (bank site.count F' B') r) =
-      rw turns (spin_lands plan (next - now) (last - (now + r.rounds)) 0 (step_state site.count s F B now) going (rw until reaches.none_due)) in
+      let l : Landed plan (last - (now + r.rounds)) 0 (step_state s now) (spun t.bank.items r) =
+      rw turns (spin_lands plan (next - now) (last - (now + r.rounds)) 0 (step_state s now) going (rw until reaches.none_due)) in
       let as_many : l.rounds ≡ r.rounds = omega (arith, l.counted) in
       let whole : last - now ≡ r.rounds + (last - (now + r.rounds)) = omega (arith, numbers.1) in
       rw whole (rw as_many at l.lands)
 
-  pub went_on : r.any ≡ false → RoomFor 0 s → GoesOn plan site.count last now s F B (now + r.rounds) s F' B'
-  went_on h f = record { later = omega (arith, numbers.0); within = numbers.1; fit = f; same = spent ∙ rw h }
+  same-size : length t.bank.items ≡ length s.bank.items
+  same-size = ap (λ (p : Spun). length p.states) turns ∙ spin_size site.limit (curve_at site.curves site.lens) 0 (next - now) s.bank.items
 
-  pub went_freeing : {x : Simulation} {F'' : List (List Float)} {B'' : List (List ℕ)} → r.any ≡ true
-      → Changes site rows (λ t f. release_finished t (now + r.rounds - 1) (with_closed t (now + r.rounds - 1) f)) s x F' B' F'' B''
-      → GoesOn plan site.count last now s F B (now + r.rounds) x F'' B''
+  pub fit_spun : Running site 0 s → Running site 0 t
+  fit_spun f = subst (Running site 0) (rebanked_as s t rest) (record { within = f.within; room = f.room; places = same-size ∙ f.places })
+
+  pub went_on : r.any ≡ false → Running site 0 s → GoesOn site last now s (now + r.rounds) t
+  went_on h f =
+      let on : after plan (last - (now + r.rounds)) (landed plan r.rounds (spun t.bank.items r) (step_state s now)) ≡ after plan (last - (now + r.rounds)) (step_state (rebanked s t.bank) (now + r.rounds)) = rw h in
+      record {
+        later = omega (arith, numbers.0);
+        within = numbers.1;
+        fit = fit_spun f;
+        same = spent ∙ on ∙ ap (λ (u : Stands). after plan (last - (now + r.rounds)) (step_state u (now + r.rounds))) (rebanked_as s t rest);
+      }
+
+  pub went_freeing : {x : Stands} → r.any ≡ true
+      → Changes site (λ t f. release_finished t (now + r.rounds - 1) (with_closed t (now + r.rounds - 1) f)) t x
+      → GoesOn site last now s (now + r.rounds) x
   went_freeing h d =
+      let d = rw (sym (rebanked_as s t rest)) at d in
       record {
         later = omega (arith, numbers.0);
         within = numbers.1;
         fit = d.fit;
-        same = spent ∙ rw h (ap (λ (f : SiteState ChargerState). after plan (last - (now + r.rounds)) (at plan f (now + r.rounds))) (sym (d.state curves lens)));
+        same = spent ∙ rw h (ap (λ (f : SiteState ChargerState). after plan (last - (now + r.rounds)) (at plan f (now + r.rounds))) (sym d.state));
       }
 
 -- ---- behind the events due
 
-module _ (site : Site) (rows : List (List Bool)) (curves : List (List Float)) (lens : List ℕ) (now last : ℕ) (s r : Simulation) (F : List (List Float)) (B : List (List ℕ)) (F' : List (List Float)) (B' : List (List ℕ))
-    (before : now < last) (going : ended (plan_of site rows curves lens) (step_state site.count s F B now) ≡ false)
-    (is-due : site_state r (bank site.count F' B') ≡ due (plan_of site rows curves lens) now (pending s.events) (site_state s (bank site.count F B))) where
-  pub went_last : ended (plan_of site rows curves lens) (step_state site.count r F' B' now) ≡ true → RoomFor 0 r
-      → GoesOn (plan_of site rows curves lens) site.count last now s F B (now + 1) r F' B'
+module _ (site : Site) (now last : ℕ) (s r : Stands)
+    (before : now < last) (going : ended (plan_of site) (step_state s now) ≡ false)
+    (is-due : held r ≡ due (plan_of site) now (pending s.simulation.events) (held s)) where
+  pub went_last : ended (plan_of site) (step_state r now) ≡ true → Running site 0 r → GoesOn site last now s (now + 1) r
   went_last over f =
       record {
         later = omega arith;
         within = omega arith;
         fit = f;
-        same = last_round (plan_of site rows curves lens) now last (site_state s (bank site.count F B)) (site_state r (bank site.count F' B')) before going is-due over;
+        same = last_round (plan_of site) now last (held s) (held r) before going is-due over;
       }
 
-  pub went_through : {then : ℕ} {x : Simulation} {F'' : List (List Float)} {B'' : List (List ℕ)} → ended (plan_of site rows curves lens) (step_state site.count r F' B' now) ≡ false
-      → GoesOn (plan_of site rows curves lens) site.count last now r F' B' then x F'' B'' → GoesOn (plan_of site rows curves lens) site.count last now s F B then x F'' B''
+  pub went_through : {then : ℕ} {x : Stands} → ended (plan_of site) (step_state r now) ≡ false → GoesOn site last now r then x → GoesOn site last now s then x
   went_through on w =
       record {
         later = w.later;
         within = w.within;
         fit = w.fit;
-        same =
-            handled_first (plan_of site rows curves lens) now last (site_state s (bank site.count F B)) (site_state r (bank site.count F' B')) before going is-due on
-            ∙ w.same;
+        same = handled_first (plan_of site) now last (held s) (held r) before going is-due on ∙ w.same;
       }

@@ -7,7 +7,7 @@ use native.Mathlib.Omega.{arith}
 use borrow.Author.Tests.{leb-true}
 use lib.Dec.{leb}
 use lib.ListN.{length, get_or, take, replicate}
-use Rattle.charger.specs.declared.connector.Common.{Common}
+use Rattle.std.specs.Prelude.{Option}
 use Rattle.charger.specs.Connector.{has_code, common, is_connector}
 use Rattle.charger.specs.Vehicle.{connector_of, compatible, vehicle_at}
 use Rattle.charger.proofs.Lists.{and_true, all_default, by_test}
@@ -35,7 +35,7 @@ has_code_lem row k l h =
 pub common_code : (row : List Bool) (ks : List ℕ) → length row ≡ 5 → is_connector (common row ks) ≡ true → (1 ≤ code_of (common row ks)) × (code_of (common row ks) ≤ 5)
 common_code row [] l h = absurd (false≢true h)
 common_code row (k ∷ ks) l h =
-    by_test (λ (x : Common). is_connector x ≡ true → (1 ≤ code_of x) × (code_of x ≤ 5)) (has_code row k) (λ t n. has_code_lem row k l t) (λ f n. common_code row ks l n) h
+    by_test (λ (x : Option ℕ). is_connector x ≡ true → (1 ≤ code_of x) × (code_of x ≤ 5)) (has_code row k) (λ t n. has_code_lem row k l t) (λ f n. common_code row ks l n) h
 
 row-length : (plan : List ℕ) (c : ℕ) → length (row_at (connector_rows plan) c) ≡ 5
 unfolding connector_rows

@@ -33,7 +33,6 @@ use Rattle.files.specs.BookSession.{vehicle_number, entry, book_sessions, has_id
 use Rattle.files.specs.Book.{book_bytes, written, session_count, book_offset, session_at, outcome_at, outcomes_of, sessions_in}
 use Rattle.files.specs.SessionBlocks.{slot, session_bytes, session_of, sessions_from}
 use Rattle.files.specs.Call.{stop_of}
-use Rattle.plan.specs.declared.answer.Answer.TheVariants.{Fine}
 use Rattle.files.specs.declared.book_session.BookSession.{BookSession}
 use Rattle.plan.proofs.SearchLaws.{first_missed, length-each, each_at}
 use Rattle.plan.proofs.blocks.Laws.{block_read}
@@ -41,12 +40,13 @@ use Rattle.plan.proofs.bytes.Laws.{Begins, le_at-drop}
 use Rattle.files.proofs.session_blocks.Laws.{length-slot}
 use Rattle.files.proofs.ReadBack.{book_session_at, count-written}
 use Rattle.files.proofs.read.Accepted.{counted, vehicle_rule, kind_vehicle}
+use Rattle.std.specs.Prelude.{Ok}
 
 pub vehicle-count : (plan : List ℕ) → length (vehicles_of plan) ≡ vehicle_count plan
 unfolding vehicles_of
 vehicle-count plan = length-each (vehicle_in plan) 0 (vehicle_count plan)
 
-pub few_vehicles : (plan : List ℕ) → check_blocks plan ≡ Fine → length (vehicles_of plan) ≤ 64
+pub few_vehicles : (plan : List ℕ) → check_blocks plan ≡ Ok tt → length (vehicles_of plan) ≤ 64
 few_vehicles plan fine = omega (arith, vehicle-count plan, (counted plan fine).vehicles)
 
 -- ---- the outcome bytes are the sessions' outcomes
@@ -74,7 +74,7 @@ outcomes_of_run plan b xs k e =
 
 -- ---- a vehicle's id is its own
 
-module _ (plan : List ℕ) (fine : check_blocks plan ≡ Fine) where
+module _ (plan : List ℕ) (fine : check_blocks plan ≡ Ok tt) where
   id_of : (v : ℕ) → v < vehicle_count plan → vehicle_number plan v 0 ≡ id_at plan (1 + profile_count plan + charger_count plan + v)
   unfolding vehicle_number id_at
   id_of v h = rw (lt-ltb v (vehicle_count plan) h, block_read 4 plan (1 + profile_count plan + charger_count plan + v) 0 (omega arith), add-zero)
@@ -118,7 +118,7 @@ ids_of_run : (plan b : List ℕ) (xs : List Session) (id : ℕ) → sessions_in 
 unfolding book_sessions
 ids_of_run plan b xs id e = ap (count (has_id id)) e ∙ count_map (entry plan (vehicles_of plan) (connector_rows plan)) (has_id id) xs
 
-pub one_by_id : (plan b : List ℕ) (engine n : ℕ) → check_blocks plan ≡ Fine → let s = stop_of (read_plan plan) engine n in
+pub one_by_id : (plan b : List ℕ) (engine n : ℕ) → check_blocks plan ≡ Ok tt → let s = stop_of (read_plan plan) engine n in
     sessions_in b ≡ book_sessions plan s.sessions → (v : ℕ) → v < vehicle_count plan
     → count (arrives (eqb v)) s.pending + count (eqb v) s.queue + count (has_id (vehicle_number plan v 0)) (sessions_in b) ≡ 1
 one_by_id plan b engine n fine e v h =
@@ -143,7 +143,7 @@ one_by_id plan b engine n fine e v h =
 
 -- ---- a closed session stands at the same offset, byte for byte
 
-pub few_sessions : (plan : List ℕ) (engine n : ℕ) → check_blocks plan ≡ Fine → length (stop_of (read_plan plan) engine n).sessions ≤ 64
+pub few_sessions : (plan : List ℕ) (engine n : ℕ) → check_blocks plan ≡ Ok tt → length (stop_of (read_plan plan) engine n).sessions ≤ 64
 few_sessions plan engine n fine =
     let s = stop_of (read_plan plan) engine n in
     omega (

@@ -1,7 +1,7 @@
 -- Demands 2 and 3 and requests 13 and 9 hold of what every run answers, and of the book that it leaves.
 use mathlib.Core.Path.{◌≡◌, refl, sym, ap, ◌∙◌, subst}
 use mathlib.Core.Bool.{Bool, true, false, cond}
-use mathlib.Core.List.{List, []}
+use mathlib.Core.List.{List}
 use Prim.Native.Nat.{ℕ, zero, suc, ◌+◌, ◌-◌, ◌≤◌, ◌<◌}
 use native.Mathlib.Omega.{arith}
 use borrow.Author.Tests.{ltb-false, le-ltb}
@@ -19,69 +19,66 @@ use Rattle.files.specs.Demand.{OfRun, ReadsBack, UnitsUsed, FreeKnown, NoFreeFit
 use Rattle.files.specs.HotDay.{HotDayOfRun, BookByRating}
 use Rattle.files.specs.Fleets.{FleetsWithin, FleetsCarried, AsBefore}
 use Rattle.files.specs.BookSession.{book_sessions}
-use Rattle.plan.specs.declared.answer.Answer.{Answer}
-use Rattle.plan.specs.declared.answer.Answer.TheVariants.{Fine, Refused}
 use Rattle.plan.specs.declared.answer.Totals.{Totals}
-use Rattle.plan.specs.declared.answer.RunAnswer.{RunAnswer}
 use Rattle.plan.specs.declared.answer.Refusal.{Refusal}
 use Rattle.plan.specs.declared.answer.Refusal.TheVariants.{EngineAbove, AllowanceAbove, BookUnder}
-use Rattle.plan.specs.declared.answer.RunAnswer.TheVariants.{Refused as RunRefused, Stopped}
 use Rattle.files.proofs.check.PairLaws.{plan_fine}
 use Rattle.files.proofs.call.HotDay.{hot_day_of_plan, book_by_rating}
 use Rattle.files.proofs.call.Fleets.{fleets_within, fleets_carried, no_fleets}
 use Rattle.files.proofs.call.BookDemand.{vehicle-count, outcomes_of_run, one_by_id, few_sessions, closed_stays}
+use Rattle.std.specs.Prelude.{Result, Ok, Err}
 
 -- ---- what is known of a run that was not refused
 
 pub record Runs (plan : List ℕ) (engine n : ℕ) (t : Totals) : Type 0 where
-  pub fine : check_plan plan ≡ Fine
+  pub fine : check_plan plan ≡ Ok tt
   pub either : engine ≤ 1
   pub counts : t ≡ totals (stop_of (read_plan plan) engine n)
 
-pub of_map : {P Q : Totals → Type 0} → ((t : Totals) → P t → Q t) → (r : RunAnswer) → OfRun P r → OfRun Q r
-of_map f (RunRefused x) h = tt
-of_map f (Stopped t) h = f t h
+pub of_map : {P Q : Totals → Type 0} → ((t : Totals) → P t → Q t) → (r : Result Totals Refusal) → OfRun P r → OfRun Q r
+of_map f (Err x) h = tt
+of_map f (Ok t) h = f t h
 
-pub of_both : {P Q R : Totals → Type 0} → ((t : Totals) → P t → Q t → R t) → (r : RunAnswer) → OfRun P r → OfRun Q r → OfRun R r
-of_both f (RunRefused x) h k = tt
-of_both f (Stopped t) h k = f t h k
+pub of_both : {P Q R : Totals → Type 0} → ((t : Totals) → P t → Q t → R t) → (r : Result Totals Refusal) → OfRun P r → OfRun Q r → OfRun R r
+of_both f (Err x) h k = tt
+of_both f (Ok t) h k = f t h k
 
 module _ (plan : List ℕ) (engine n : ℕ) where
   abbrev run : Totals
   run = totals (stop_of (read_plan plan) engine n)
 
   -- a plan that is fine is run
-  pub if_fine_lem : engine ≤ 1 → OfRun (Runs plan engine n) (if_fine (check_plan plan) (Stopped run))
+  pub if_fine_lem : engine ≤ 1 → OfRun (Runs plan engine n) (if_fine (check_plan plan) (Ok run))
   if_fine_lem h = by_plan (check_plan plan) refl
     where
-      by_plan : (a : Answer) → check_plan plan ≡ a → OfRun (Runs plan engine n) (if_fine a (Stopped run))
-      by_plan Fine e = record { fine = e; either = h; counts = refl }
-      by_plan (Refused x) e = tt
+      by_plan : (a : Result (Unit {0}) Refusal) → check_plan plan ≡ a → OfRun (Runs plan engine n) (if_fine a (Ok run))
+      by_plan (Ok u) e = record { fine = e; either = h; counts = refl }
+      by_plan (Err x) e = tt
 
   known : (room : ℕ) → OfRun (Runs plan engine n) (answer_of plan engine n room)
   unfolding answer_of
   known room = by_engine_lem (ltb 1 engine) refl
     where
-      by_room : (c : Bool) → engine ≤ 1 → OfRun (Runs plan engine n) (cond c (RunRefused BookUnder) (if_fine (check_plan plan) (Stopped run)))
+      by_room : (c : Bool) → engine ≤ 1 → OfRun (Runs plan engine n) (cond c (Err BookUnder) (if_fine (check_plan plan) (Ok run)))
       by_room true h = tt
       by_room false h = if_fine_lem h
 
       by_allowance : (c : Bool) → engine ≤ 1
-          → OfRun (Runs plan engine n) (cond c (RunRefused AllowanceAbove) (cond (ltb room 7168) (RunRefused BookUnder) (if_fine (check_plan plan) (Stopped run))))
+          → OfRun (Runs plan engine n) (cond c (Err AllowanceAbove) (cond (ltb room 7168) (Err BookUnder) (if_fine (check_plan plan) (Ok run))))
       by_allowance true h = tt
       by_allowance false h = by_room (ltb room 7168) h
 
       by_engine_lem : (c : Bool) → ltb 1 engine ≡ c
-          → OfRun (Runs plan engine n) (cond c (RunRefused EngineAbove) (cond (ltb 10000000 n) (RunRefused AllowanceAbove) (cond (ltb room 7168) (RunRefused BookUnder) (if_fine (check_plan plan) (Stopped run)))))
+          → OfRun (Runs plan engine n) (cond c (Err EngineAbove) (cond (ltb 10000000 n) (Err AllowanceAbove) (cond (ltb room 7168) (Err BookUnder) (if_fine (check_plan plan) (Ok run)))))
       by_engine_lem true e = tt
       by_engine_lem false e = by_allowance (ltb 10000000 n) (ltb-false 1 engine e)
 
   -- what is known of what `run` answers
-  pub known_run : (room : ℕ) (r : RunAnswer) → r ≡ answer_of plan engine n room → OfRun (Runs plan engine n) r
+  pub known_run : (room : ℕ) (r : Result Totals Refusal) → r ≡ answer_of plan engine n room → OfRun (Runs plan engine n) r
   known_run room r e = subst (OfRun (Runs plan engine n)) (sym e) (known room)
 
   -- and where nothing refuses it, a run is not refused
-  pub answered : (room : ℕ) → check_plan plan ≡ Fine → engine ≤ 1 → n ≤ 10000000 → 7168 ≤ room → answer_of plan engine n room ≡ Stopped run
+  pub answered : (room : ℕ) → check_plan plan ≡ Ok tt → engine ≤ 1 → n ≤ 10000000 → 7168 ≤ room → answer_of plan engine n room ≡ Ok run
   unfolding answer_of
   answered room fine e a r = rw (le-ltb 1 engine e, le-ltb 10000000 n a, le-ltb room 7168 r, fine)
 
@@ -103,38 +100,37 @@ kept p engine n m h =
 -- ---- the sentences
 
 -- all of them, in the order in which the calls promise them
-abbrev pub Promises : List ℕ → ℕ → ℕ → List ℕ → RunAnswer → Type 0
-Promises plan engine n book r =
-    ReadsBack plan engine n book r
-    × (UnitsUsed plan engine n r
-    × (FreeKnown plan engine n r
-    × (NoFreeFits plan engine n r
-    × (OneSpot plan engine n r
-    × (OneById plan engine n book r
-    × (AddUp plan engine n r
-    × (CountsOfBook plan engine n book r
-    × (ClosedStay plan engine n book r
-    × (ExactWaits plan engine n r
-    × (Handled plan engine n r
-    × (EventsEnd plan engine n r
-    × (StepsEnd plan engine n r
-    × (HotDayOfRun plan r
-    × (BookByRating plan engine book r
-    × (FleetsWithin plan engine n r
-    × (FleetsCarried plan book r
-    × AsBefore plan r))))))))))))))))
+pub record Promises (plan : List ℕ) (engine n : ℕ) (book : List ℕ) (r : Result Totals Refusal) : Type 0 where
+  pub back : ReadsBack plan engine n book r
+  pub units : UnitsUsed plan engine n r
+  pub free : FreeKnown plan engine n r
+  pub settled : NoFreeFits plan engine n r
+  pub spots : OneSpot plan engine n r
+  pub ids : OneById plan engine n book r
+  pub counts : AddUp plan engine n r
+  pub outcomes : CountsOfBook plan engine n book r
+  pub closed : ClosedStay plan engine n book r
+  pub waits : ExactWaits plan engine n r
+  pub handled : Handled plan engine n r
+  pub events : EventsEnd plan engine n r
+  pub steps : StepsEnd plan engine n r
+  pub hot_day : HotDayOfRun plan r
+  pub rating : BookByRating plan engine book r
+  pub fleets : FleetsWithin plan engine n r
+  pub carried : FleetsCarried plan book r
+  pub no_fleets : AsBefore plan r
 
 -- nothing is promised of a refused call
-pub unpromised : (x : Refusal) → Promises [] 0 0 [] (RunRefused x)
-unpromised x = (tt, (tt, (tt, (tt, (tt, (tt, (tt, (tt, (tt, (tt, (tt, (tt, (tt, (tt, (tt, (tt, (tt, tt)))))))))))))))))
+pub unpromised : (plan : List ℕ) (engine n : ℕ) (book : List ℕ) (x : Refusal) → Promises plan engine n book (Err x)
+unpromised plan engine n book x = record { back = tt; units = tt; free = tt; settled = tt; spots = tt; ids = tt; counts = tt; outcomes = tt; closed = tt; waits = tt; handled = tt; events = tt; steps = tt; hot_day = tt; rating = tt; fleets = tt; carried = tt; no_fleets = tt }
 
 -- the bytes of the book
-pub book_bytes_lem : (plan : List ℕ) (engine n : ℕ) (old book : List ℕ) (r : RunAnswer) → book ≡ book_after plan engine n r old
+pub book_bytes_lem : (plan : List ℕ) (engine n : ℕ) (old book : List ℕ) (r : Result Totals Refusal) → book ≡ book_after plan engine n r old
     → OfRun (λ t. book ≡ written (book_of plan engine (stop_of (read_plan plan) engine n)) old) r
-book_bytes_lem plan engine n old book (RunRefused x) h = tt
-book_bytes_lem plan engine n old book (Stopped t) h = h
+book_bytes_lem plan engine n old book (Err x) h = tt
+book_bytes_lem plan engine n old book (Ok t) h = h
 
-module _ (plan : List ℕ) (engine n : ℕ) (r : RunAnswer) (runs : OfRun (Runs plan engine n) r) where
+module _ (plan : List ℕ) (engine n : ℕ) (r : Result Totals Refusal) (runs : OfRun (Runs plan engine n) r) where
   holds : (P : Totals → Type 0) → P (run plan engine n) → OfRun P r
   holds P h = of_map (λ t k. subst P (sym k.counts) h) r runs
 
@@ -235,4 +231,23 @@ module _ (plan : List ℕ) (engine n : ℕ) (r : RunAnswer) (runs : OfRun (Runs 
 
     pub promised : Promises plan engine n book r
     promised =
-        (back, (units_used, (free_known, (no_free_fits, (one_spot, (one_id, (add_up, (counts_of_book, (closed-stay, (exact_waits, (handled, (events_end, (steps_end, (hot_day, (book_rated, (within, (carried, no_fleet)))))))))))))))))
+        record {
+          back = back;
+          units = units_used;
+          free = free_known;
+          settled = no_free_fits;
+          spots = one_spot;
+          ids = one_id;
+          counts = add_up;
+          outcomes = counts_of_book;
+          closed = closed-stay;
+          waits = exact_waits;
+          handled = handled;
+          events = events_end;
+          steps = steps_end;
+          hot_day = hot_day;
+          rating = book_rated;
+          fleets = within;
+          carried = carried;
+          no_fleets = no_fleet;
+        }

@@ -27,7 +27,6 @@ use Rattle.engine.proofs.site.AsBefore.{as_before}
 use Rattle.plan.specs.Bytes.{le_at}
 use Rattle.plan.specs.Places.{vehicle_count, vehicle_block}
 use Rattle.plan.specs.Plan.{check_blocks}
-use Rattle.plan.specs.declared.answer.Answer.TheVariants.{Fine}
 use Rattle.plan.proofs.bytes.Laws.{le_at-drop}
 use Rattle.plan.proofs.SearchLaws.{each_at, all_each}
 use Rattle.files.specs.declared.book_session.BookSession.{BookSession}
@@ -40,6 +39,7 @@ use Rattle.files.specs.Fleets.{fleet_of, queue_places_at}
 use Rattle.files.proofs.SessionsIn.{in_book}
 use Rattle.files.proofs.read.Accepted.{vehicle_tests_lem}
 use Rattle.files.proofs.call.BookDemand.{vehicle-count, same_id, said_at, length_said}
+use Rattle.std.specs.Prelude.{Ok}
 
 -- ---- both engines
 
@@ -79,7 +79,7 @@ module _ (plan : List ℕ) where
       omega (arith, same, within p engine n fleet one, places_read fleet one most)
 
   -- every fleet is 0 to 64
-  pub fleets_known : check_blocks plan ≡ Fine → All (λ x. x.fleet ≤ 64) (vehicles_of plan)
+  pub fleets_known : check_blocks plan ≡ Ok tt → All (λ x. x.fleet ≤ 64) (vehicles_of plan)
   unfolding vehicles_of vehicle_in vehicle_of
   fleets_known fine =
       all_each (vehicle_in plan) 0 (vehicle_count plan) (λ v a b. leb-true (le_at 2 (vehicle_block plan v) 60) 64 (vehicle_tests_lem plan fine v (omega arith) 6))
@@ -91,7 +91,7 @@ module _ (plan : List ℕ) where
 
   -- ---- the fleets in the book
 
-  module _ (fine : check_blocks plan ≡ Fine) (engine n : ℕ) (book : List ℕ) (size : session_count book ≡ length (book_sessions plan (stop_of (read_plan plan) engine n).sessions))
+  module _ (fine : check_blocks plan ≡ Ok tt) (engine n : ℕ) (book : List ℕ) (size : session_count book ≡ length (book_sessions plan (stop_of (read_plan plan) engine n).sessions))
       (back : sessions_in book ≡ book_sessions plan (stop_of (read_plan plan) engine n).sessions) where
     abbrev xs : List Session
     xs = (stop_of (read_plan plan) engine n).sessions

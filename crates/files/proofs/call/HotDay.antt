@@ -30,21 +30,21 @@ use Rattle.plan.specs.Plan.{check_blocks}
 use Rattle.files.specs.Check.{check_plan}
 use Rattle.files.specs.HotDay.{HotDayOfPlan, ByRating}
 use Rattle.files.specs.declared.book_session.BookSession.{BookSession}
-use Rattle.plan.specs.declared.answer.Answer.{Answer}
-use Rattle.plan.specs.declared.answer.Answer.TheVariants.{Fine, Refused}
 use Rattle.plan.proofs.SearchLaws.{length-each}
 use Rattle.files.proofs.read.Accepted.{profiles_named}
 use Rattle.charger.specs.Leads.{ChargerWithin}
 use Rattle.files.proofs.read.Within.{VehicleWithin, vehicles-within, chargers_within, battery_within, points-within}
 use Rattle.files.proofs.check.PairLaws.{plan_fine, charged_in_time}
 use Rattle.files.proofs.check.RatedPower.{vehicle_inside, row_inside, rated-above}
+use Rattle.std.specs.Prelude.{Result, Ok, Err}
+use Rattle.plan.specs.declared.answer.Refusal.{Refusal}
 
 -- ---- the pairs of a plan
-module _ (plan : List ℕ) (fine : check_plan plan ≡ Fine) where
+module _ (plan : List ℕ) (fine : check_plan plan ≡ Ok tt) where
   abbrev p : Plan
   p = read_plan plan
 
-  blocks : check_blocks plan ≡ Fine
+  blocks : check_blocks plan ≡ Ok tt
   blocks = (plan_fine plan fine).0
 
   module _ (v c : ℕ) (h : fits p v c ≡ true) where
@@ -93,9 +93,9 @@ module _ (plan : List ℕ) (fine : check_plan plan ≡ Fine) where
       (rw low at (in_time v a fa)) (rw high at (in_time w b fb)))
 
 -- of what a check answers
-pub hot_day_if_fine : (plan : List ℕ) (r : Answer) → r ≡ check_plan plan → HotDayOfPlan plan r
-hot_day_if_fine plan Fine e = hot_day_of_plan plan (sym e)
-hot_day_if_fine plan (Refused x) e = tt
+pub hot_day_if_fine : (plan : List ℕ) (r : Result (Unit {0}) Refusal) → r ≡ check_plan plan → HotDayOfPlan plan r
+hot_day_if_fine plan (Ok u) e = hot_day_of_plan plan (sym e)
+hot_day_if_fine plan (Err x) e = tt
 
 -- ---- the book of a run by events
 charged_one : (o : Outcome) → outcome_number o ≡ 1 → o ≡ Charged

@@ -16,8 +16,7 @@ use Rattle.charger.specs.Connector.{common, is_connector, has_code}
 use Rattle.charger.specs.Vehicle.{compatible, connector_of, no_vehicle}
 use Rattle.charger.specs.Charger.{current_of, with_current, actual_max_power, power_by}
 use Rattle.charger.specs.declared.charger.Charger.{Charger}
-use Rattle.charger.specs.declared.connector.Common.{Common}
-use Rattle.charger.specs.declared.connector.Common.TheVariants.{Connector, Nothing}
+use Rattle.std.specs.Prelude.{Option, Some, None}
 use Rattle.charger.specs.declared.vehicle.Vehicle.{Vehicle}
 use Rattle.engine.specs.Plan.{Plan, row_at, charger_at, fits, rated, vehicle}
 use Rattle.charger.specs.Leads.{ChargerWithin}
@@ -35,7 +34,7 @@ no_flag (suc (suc (suc (suc (suc j))))) = get_or-eq_default (replicate 5 false) 
 no_code : (k : ℕ) → has_code (replicate 5 false) k ≡ false
 no_code k = rw (no_flag (k - 1)) (and-false (leb 1 k))
 
-no_connector : (ks : List ℕ) → common (replicate 5 false) ks ≡ Nothing
+no_connector : (ks : List ℕ) → common (replicate 5 false) ks ≡ None
 no_connector [] = refl
 no_connector (k ∷ ks) = rw (no_code k) (no_connector ks)
 
@@ -70,9 +69,9 @@ above_zero (inf false) h = tt
 above_zero (fin true m e) h = absurd h
 above_zero (fin false m e) h = lt→ltb (0 * down e) (m * up e * 1) (omega (arith, mul-pos (ltb→lt 0 m h) (up_pos e), zero-mul (down e)))
 
-by_connector : (x : Charger) (k : Common) → is_connector k ≡ true → ChargerWithin x → T (lt (ratio 0 1) (power_by x (with_current x k)).0)
-by_connector x (Connector code) h w = above_zero (actual_max_power x (current_of x code)).0 (power_above x w (current_of x code) (current_drawn x w code))
-by_connector x Nothing h w = absurd (false≢true h)
+by_connector : (x : Charger) (k : Option ℕ) → is_connector k ≡ true → ChargerWithin x → T (lt (ratio 0 1) (power_by x (with_current x k)).0)
+by_connector x (Some code) h w = above_zero (actual_max_power x (current_of x code)).0 (power_above x w (current_of x code) (current_drawn x w code))
+by_connector x None h w = absurd (false≢true h)
 
 pub rated-above : (p : Plan) (v c : ℕ) → fits p v c ≡ true → ChargerWithin (charger_at p.chargers c) → T (lt (ratio 0 1) (rated p v c).0)
 unfolding fits compatible rated

@@ -1,42 +1,35 @@
 -- Laws of the two searches for a failing pair. Assumes nothing.
-use mathlib.Core.Path.{◌≡◌, sym, ◌∙◌}
-use mathlib.Core.Bool.{Bool, true, false}
-use mathlib.Core.List.{List}
-use Prim.Native.Nat.{ℕ, ◌+◌, ◌-◌, ◌≤◌, ◌<◌}
-use borrow.Author.Tests.{lt-ltb, le-ltb}
-use lib.ListN.{length, get_or, take}
-use Rattle.charger.specs.declared.charger.Charger.{Charger}
-use Rattle.engine.specs.Plan.{Plan, charger_at, row_at}
-use Rattle.engine.proofs.site.At.{at_inside}
-use Rattle.plan.specs.Search.{first_index}
+use Rattle.std.proofs.Common.{◌≡◌, ℕ, ◌+◌, ◌-◌, ◌≤◌, ◌<◌, true, false, Some, None, length, sym, ◌∙◌, lt-ltb, le-ltb}
+use Rattle.engine.specs.Plan.{Plan}
+use Rattle.plan.specs.Search.{first_index, short_of}
+use Rattle.plan.proofs.SearchLaws.{first_again, first_found, first_none, short_some, short_past}
 use Rattle.files.specs.Pairs.{failing_charger, fails_somewhere, failing_pair}
-use Rattle.files.specs.declared.pairs.FailingPair.TheVariants.{Nothing, Pair}
-use Rattle.plan.proofs.SearchLaws.{first_again, first_found, first_none}
 
--- a member of an array's first n is one of the list that they stand for
-pub charger_inside : (l : List Charger) (n i : ℕ) (d : Charger) → i < n → i < length l → get_or l i d ≡ charger_at (take n l) i
-unfolding charger_at
-charger_inside l n i d h k = at_inside l n i d _ h k
-
-pub row_inside : (l : List (List Bool)) (n i : ℕ) (d : List Bool) → i < n → i < length l → get_or l i d ≡ row_at (take n l) i
-row_inside l n i d h k = at_inside l n i d _ h k
-
--- a search of the vehicles: at v, the first charger that it fails at is c
-module _ (p : Plan) (n count : ℕ) (vs : length p.vehicles ≡ n) (cs : length p.chargers ≡ count) (v : ℕ) (on : first_index (fails_somewhere p) v (n - v) ≡ first_index (fails_somewhere p) 0 n) where
-  pub pair_met : (c : ℕ) → c ≡ failing_charger p v → v < n → c < count → failing_pair p ≡ Pair v c
+-- the vehicles before v fail nowhere
+module _ (p : Plan) (v : ℕ) (on : first_index (fails_somewhere p) v (length p.vehicles - v) ≡ first_index (fails_somewhere p) 0 (length p.vehicles)) where
+  -- v fails first at the charger c
+  pub pair_met : (c : ℕ) → short_of (failing_charger p v) (length p.chargers) ≡ Some c → v < length p.vehicles → Some (v, c) ≡ failing_pair p
   unfolding failing_pair
-  pair_met c e h l =
-      let here : fails_somewhere p v ≡ true = rw (← e, cs) (lt-ltb c count l) in
+  pair_met c f h =
+      let n = length p.vehicles in
+      let found = short_some (failing_charger p v) (length p.chargers) c f in
+      let e = found.0 in
+      let l = found.1 in
+      let here : fails_somewhere p v ≡ true = rw (← e) (lt-ltb c (length p.chargers) l) in
       let at : first_index (fails_somewhere p) 0 n ≡ v = sym on ∙ first_found (fails_somewhere p) v n h here in
-      rw (vs, at, lt-ltb v n h, ← e)
+      rw (at, lt-ltb v n h, ← e)
 
-  pub pair_passed : (c : ℕ) → c ≡ failing_charger p v → v < n → count ≤ c → first_index (fails_somewhere p) (v + 1) (n - (v + 1)) ≡ first_index (fails_somewhere p) 0 n
-  pair_passed c e h l =
-      let not-here : fails_somewhere p v ≡ false = rw (← e, cs) (le-ltb c count l) in
-      first_again (fails_somewhere p) v n h not-here on
+  -- v fails nowhere
+  pub pair_passed : short_of (failing_charger p v) (length p.chargers) ≡ None → v < length p.vehicles
+      → first_index (fails_somewhere p) (v + 1) (length p.vehicles - (v + 1)) ≡ first_index (fails_somewhere p) 0 (length p.vehicles)
+  pair_passed f h =
+      let nowhere : fails_somewhere p v ≡ false = short_past (failing_charger p v) (length p.chargers) f in
+      first_again (fails_somewhere p) v (length p.vehicles) h nowhere on
 
-  pub pair_none : n ≤ v → failing_pair p ≡ Nothing
+  -- there is no v
+  pub pair_none : length p.vehicles ≤ v → None ≡ failing_pair p
   unfolding failing_pair
   pair_none h =
+      let n = length p.vehicles in
       let at : first_index (fails_somewhere p) 0 n ≡ v = sym on ∙ first_none (fails_somewhere p) v n h in
-      rw (vs, at, le-ltb v n h)
+      rw (at, le-ltb v n h)

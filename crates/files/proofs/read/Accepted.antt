@@ -23,23 +23,22 @@ use Rattle.plan.specs.declared.answer.Rule.TheVariants.{Length}
 use Rattle.plan.specs.declared.places.Kind.TheVariants.{Profile, Charger, Vehicle as VehicleKind}
 use Rattle.plan.specs.declared.answer.Refusal.{Refusal}
 use Rattle.plan.specs.declared.answer.Refusal.TheVariants.{Broken}
-use Rattle.plan.specs.declared.answer.Answer.{Answer}
-use Rattle.plan.specs.declared.answer.Answer.TheVariants.{Fine, Refused}
-use Rattle.files.proofs.read.Laws.{with_id_from, with_id_to}
+use Rattle.plan.proofs.ids.Laws.{with_id_from, with_id_to}
 use Rattle.plan.proofs.blocks.Laws.{block_read, passes-sealed, whole_blocks_lem}
 use Rattle.plan.proofs.SearchLaws.{holds_at, first_missed, all_each}
+use Rattle.std.specs.Prelude.{Result, Ok, Err}
 
 -- ---- no rule refuses a block
 
-not_fine : {x : Refusal} → Refused x ≡ Fine → ⊥
+not_fine : {x : Refusal} → ◌≡◌ {A = Result (Unit {0}) Refusal} (Err x) (Ok tt) → ⊥
 not_fine e = let z : ◌≡◌ {A = ℕ} 0 1 = cc in omega arith
 
 -- an answer that is fine was not the refusal
-passed_over : (t : Bool) (x : Refusal) (next : Answer) → cond t (Refused x) next ≡ Fine → (t ≡ false) × (next ≡ Fine)
+passed_over : (t : Bool) (x : Refusal) (next : Result (Unit {0}) Refusal) → cond t (Err x) next ≡ Ok tt → (t ≡ false) × (next ≡ Ok tt)
 passed_over true x next e = absurd (not_fine e)
 passed_over false x next e = (refl, e)
 
-no_refusal : (rs : List Rule) (plan : List ℕ) (n : ℕ) → first_refusal rs plan n ≡ Fine → (i : ℕ) → i < length rs → (k : ℕ) → k < n
+no_refusal : (rs : List Rule) (plan : List ℕ) (n : ℕ) → first_refusal rs plan n ≡ Ok tt → (i : ℕ) → i < length rs → (k : ℕ) → k < n
     → broken (get_or rs i Length) plan k ≡ false
 unfolding first_refusal
 no_refusal [] plan n e i h k l = absurd (omega arith)
@@ -69,12 +68,12 @@ kind_vehicle plan v =
     let k = 1 + profile_count plan + charger_count plan + v in
     rw (ne_eqb k 0 (λ e. omega arith), lt-leb k (profile_count plan) (omega arith), lt-leb k (profile_count plan + charger_count plan) (omega arith))
 
-length_answer : (t : Bool) (next : Answer) → cond t next (Refused (Broken Length 0)) ≡ Fine → (t ≡ true) × (next ≡ Fine)
+length_answer : (t : Bool) (next : Result (Unit {0}) Refusal) → cond t next (Err (Broken Length 0)) ≡ Ok tt → (t ≡ true) × (next ≡ Ok tt)
 length_answer true next e = (refl, e)
 length_answer false next e = absurd (not_fine e)
 
-module _ (plan : List ℕ) (fine : check_blocks plan ≡ Fine) where
-  whole : (whole_blocks (length plan) 113 ≡ true) × (first_refusal rules plan (length plan / 512) ≡ Fine)
+module _ (plan : List ℕ) (fine : check_blocks plan ≡ Ok tt) where
+  whole : (whole_blocks (length plan) 113 ≡ true) × (first_refusal rules plan (length plan / 512) ≡ Ok tt)
   unfolding check_blocks
   whole = length_answer (whole_blocks (length plan) 113) (first_refusal rules plan (length plan / 512)) fine
 

@@ -7,32 +7,18 @@ use Prim.Native.Nat.{ℕ, ◌+◌, ◌-◌, ◌*◌, ◌≤◌, ◌<◌}
 use native.Mathlib.Nat.{zero-add, eq-or-lt_of_le}
 use native.Mathlib.Omega.{arith}
 use borrow.Author.Tests.{ltb-true, ltb-false, le-ltb}
-use lib.Dec.{ltb, eqb}
-use lib.Ieee.{Float}
+use lib.Dec.{ltb}
 use lib.ListN.{length, get_or, take, drop, set, get_or-eq_default}
 use lib.Seq.{take_all, length-take-le, take-append-le, drop_at, get_or-set_same, get_or-set_other}
-use Rattle.curve.specs.Code.Rows.{points}
 use Rattle.curve.specs.declared.units.Kwh.{Kwh}
 use Rattle.charger.specs.Code.Profiles.{curve_at}
 use Rattle.charger.proofs.waiting_queue.Part.{before_stays}
 use Rattle.charger.proofs.charge_profile_list.Profiles.{inside, past}
-use Rattle.plan.specs.Plan.{id_at, with_id}
-use Rattle.plan.proofs.SearchLaws.{first_from, first_to, each_at}
+use Rattle.plan.proofs.SearchLaws.{each_at}
 use Rattle.plan.specs.Search.{each}
 use Rattle.plan.specs.Places.{profile_count}
 use Rattle.files.specs.Read.{no_battery, curve_of_profile, battery_of}
-
--- ---- the search for an id
-
--- a search begins at its start
-pub with_id_from : (plan : List ℕ) (from to id : ℕ) → from ≤ with_id plan from to id
-unfolding with_id
-with_id_from plan from to id = first_from (λ j. eqb (id_at plan j) id) from (to - from)
-
--- and does not go past its end
-pub with_id_to : (plan : List ℕ) (from to id : ℕ) → from ≤ to → with_id plan from to id ≤ to
-unfolding with_id
-with_id_to plan from to id h = omega (arith, first_to (λ j. eqb (id_at plan j) id) from (to - from))
+use Rattle.curve.specs.declared.points.Point.{Point}
 
 -- ---- the batteries
 
@@ -49,12 +35,12 @@ all_batteries plan all p n e k = by (ltb k 16) (ltb-true k 16) (ltb-false k 16)
 -- ---- the table of curves
 
 -- the first k profiles have their curves in the table
-abbrev pub Filled : List ℕ → List (List Float) → List ℕ → ℕ → Type 0
-Filled plan curves lens k = (j : ℕ) → j < k → (get_or lens j 0 ≤ 32) × (points (take (get_or lens j 0) (drop (32 * j) curves)) ≡ curve_of_profile plan j)
+abbrev pub Filled : List ℕ → List Point → List ℕ → ℕ → Type 0
+Filled plan curves lens k = (j : ℕ) → j < k → (get_or lens j 0 ≤ 32) × (take (get_or lens j 0) (drop (32 * j) curves) ≡ curve_of_profile plan j)
 
--- one profile more, whose curve is the first n rows of its part
-pub fill_curve : (plan : List ℕ) (curves part rest : List (List Float)) (lens : List ℕ) (k n : ℕ) → 32 * k ≤ length curves → length part ≡ 32 → k < length lens
-    → n ≤ 32 → points (take n part) ≡ curve_of_profile plan k → Filled plan curves lens k
+-- one profile more, whose curve is the first n points of its part
+pub fill_curve : (plan : List ℕ) (curves part rest : List Point) (lens : List ℕ) (k n : ℕ) → 32 * k ≤ length curves → length part ≡ 32 → k < length lens
+    → n ≤ 32 → take n part ≡ curve_of_profile plan k → Filled plan curves lens k
     → Filled plan (take (32 * k) curves ++ (part ++ rest)) (set lens k n) (k + 1)
 fill_curve plan curves part rest lens k n a b l s e h j g = elim (eq-or-lt_of_le (le_of_lt_suc g)) [
   | inl p ↦ rw (p, get_or-set_same lens k n 0 l) (s, rw (drop_at (take (32 * k) curves) (part ++ rest) (32 * k) (length-take-le (32 * k) curves a), take-append-le n part rest (omega arith)) e)
@@ -65,7 +51,7 @@ fill_curve plan curves part rest lens k n a b l s e h j g = elim (eq-or-lt_of_le
     le_of_lt_suc w = omega arith
 
 -- the whole table, at every place
-pub all_curves : (plan : List ℕ) (curves : List (List Float)) (lens : List ℕ) → profile_count plan ≤ 16 → length curves ≡ 512 → length lens ≡ 16
+pub all_curves : (plan : List ℕ) (curves : List Point) (lens : List ℕ) → profile_count plan ≤ 16 → length curves ≡ 512 → length lens ≡ 16
     → Filled plan curves lens 16 → (k : ℕ) → curve_at curves lens k ≡ curve_of_profile plan k
 unfolding curve_of_profile
 all_curves plan curves lens p a b h k = by (ltb k 16) (ltb-true k 16) (ltb-false k 16)

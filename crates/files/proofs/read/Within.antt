@@ -24,12 +24,12 @@ use Rattle.plan.specs.Fields.{f64_at, cap_ok, point_count, point_ok, zeros}
 use Rattle.plan.specs.Places.{profile_count, charger_count, vehicle_count, profile_block, charger_block, vehicle_block}
 use Rattle.plan.specs.Plan.{check_blocks}
 use Rattle.files.specs.Read.{point_at, points_of, battery_of, charger_of, chargers_of, vehicle_of, vehicle_in, vehicles_of, limit_of}
-use Rattle.plan.specs.declared.answer.Answer.TheVariants.{Fine}
 use Rattle.charger.proofs.Lists.{and_true}
 use Rattle.plan.proofs.fields.Laws.{zeros_hold}
 use Rattle.plan.proofs.SearchLaws.{every_at, length-each, each_at, all_each}
 use Rattle.plan.proofs.blocks.Laws.{block_read}
 use Rattle.files.proofs.read.Accepted.{vehicle_tests_lem, charger_tests_lem, profile_tests_lem, header_tests_lem}
+use Rattle.std.specs.Prelude.{Ok}
 
 pub record VehicleWithin (x : Vehicle) : Type 0 where
   pub start : Soc x.start
@@ -58,7 +58,7 @@ at_most : (t : Bool) (x y : Kw) → cond t (AtMost x) Unlimited ≡ AtMost y →
 at_most true x y e = (refl, cc)
 at_most false x y e = absurd (let z : ◌≡◌ {A = ℕ} 0 1 = cc in omega arith)
 
-module _ (plan : List ℕ) (fine : check_blocks plan ≡ Fine) where
+module _ (plan : List ℕ) (fine : check_blocks plan ≡ Ok tt) where
   pub vehicles-within : All VehicleWithin (vehicles_of plan)
   unfolding vehicles_of vehicle_in vehicle_of
   vehicles-within = all_each (vehicle_in plan) 0 (vehicle_count plan) (λ v a b.

@@ -1,22 +1,22 @@
 -- Laws of blocks of sessions: as they are stored, and as they are read back from any place of a file on. Assumes nothing.
-use mathlib.Core.Path.{◌≡◌, refl, sym, ◌∙◌, fun_ext}
+use mathlib.Core.Path.{◌≡◌, refl, sym, ◌∙◌}
 use mathlib.Core.Bool.{true}
-use mathlib.Core.List.{List, [], ◌∷◌, ◌++◌, append_assoc}
+use mathlib.Core.List.{List, ◌++◌, append_assoc}
 use Prim.Native.Nat.{ℕ, zero, suc, ◌+◌, ◌*◌, ◌/◌, ◌%◌, ◌≤◌, ◌<◌}
-use native.Mathlib.Nat.{add_assoc, zero-add}
+use native.Mathlib.Nat.{add_assoc, add-zero, zero-add}
 use native.Mathlib.Omega.{arith}
+use Rattle.std.proofs.lemmas.List.{get_or-drop}
 use lib.ListN.{length, get_or, take, drop, length-append, drop_of_length-le}
-use lib.Seq.{sets, length-take-le, drop-cons, drop_at, drop-drop}
-use Rattle.charger.proofs.waiting_queue.Part.{get_d_any}
+use lib.Seq.{sets, drop-cons, drop_at, drop-drop}
+use Rattle.charger.specs.Lists.{All}
+use Rattle.charger.proofs.Lists.{all_at}
 use Rattle.plan.specs.Bytes.{le_at, bytes, fields, pieces}
 use Rattle.plan.specs.Blocks.{check_of, sealed, passes}
 use Rattle.files.specs.BookSession.{no_session, Fits}
-use Rattle.files.specs.Code.Writing.{EmptyFrom, FitBelow}
 use Rattle.files.specs.SessionBlocks.{session_bytes, slot, session_block, session_blocks, session_offset, session_of, sessions_from}
 use Rattle.files.specs.declared.book_session.BookSession.{BookSession}
 use Rattle.plan.proofs.bytes.Laws.{sets_append, length-bytes, length-pieces, read_back, Begins, piece_at}
 use Rattle.plan.proofs.blocks.Laws.{put_sealed, length-sealed, sealed-passes}
-use Rattle.files.proofs.book_session.Laws.{first_same}
 
 pub length_session : (x : BookSession) → length (session_bytes x) ≡ 96
 unfolding session_bytes fields bytes
@@ -37,13 +37,20 @@ put_block s a b r at five place h p q u =
     put_sealed s b r at place _ (body_length five 0) (omega arith)
     (q ∙ rw (p, sets_append s at (pieces (slot five) 0 5), length-pieces (slot five) 96 (length-slot five) 0 5)) u
 
--- five sessions of a list, from the k-th on
-pub five_slots : (xs : List BookSession) (k : ℕ) (d : BookSession) → k + 5 ≤ length xs
-    → pieces (slot (get_or xs k d ∷ get_or xs (k + 1) d ∷ get_or xs (k + 2) d ∷ get_or xs (k + 3) d ∷ get_or xs (k + 4) d ∷ [])) 0 5 ≡ pieces (slot xs) k 5
-unfolding pieces slot
-five_slots xs k d h =
-    simp add_assoc
-    (rw (get_d_any xs k d no_session (omega arith), get_d_any xs (k + 1) d no_session (omega arith), get_d_any xs (k + 2) d no_session (omega arith), get_d_any xs (k + 3) d no_session (omega arith), get_d_any xs (k + 4) d no_session (omega arith)))
+-- the slots of what follows the first n sessions
+slot_drop : (xs : List BookSession) (n k : ℕ) → slot (drop n xs) k ≡ slot xs (n + k)
+unfolding slot
+slot_drop xs n k = rw get_or-drop
+
+pieces_drop : (xs : List BookSession) (n k m : ℕ) → pieces (slot (drop n xs)) k m ≡ pieces (slot xs) (n + k) m
+unfolding pieces
+pieces_drop xs n k zero = refl
+pieces_drop xs n k (suc m) = rw (slot_drop xs n k, pieces_drop xs n (k + 1) m, ← add_assoc n k 1)
+
+-- the block that is made of what follows the first 5 j sessions
+pub block_of_rest : (place : ℕ) (xs : List BookSession) (j : ℕ) → sealed (place + j) (pieces (slot (drop (5 * j) xs)) 0 5 ++ bytes 28 0) ≡ session_block place xs j
+unfolding session_block
+block_of_rest place xs j = rw (pieces_drop xs (5 * j) 0 5, add-zero)
 
 -- ---- the blocks of sessions of a file, the first of them at a place
 
@@ -59,14 +66,6 @@ module _ (place : ℕ) (xs : List BookSession) where
   pub session_block-passes : (j : ℕ) → passes (place + j) (session_block place xs j) ≡ true
   unfolding session_block
   session_block-passes j = sealed-passes (place + j) _ (body_length xs (5 * j))
-
-  -- the blocks of the first n sessions, where there is none past them
-  pub first_blocks : (n : ℕ) → n ≤ length xs → EmptyFrom n xs → pieces (session_block place xs) 0 ((n + 4) / 5) ≡ session_blocks place (take n xs)
-  unfolding session_blocks session_block slot
-  first_blocks n h e =
-      let same : slot (take n xs) ≡ slot xs = fun_ext (λ k. rw (first_same n xs e k)) in
-      let blocks : session_block place (take n xs) ≡ session_block place xs = fun_ext (λ j. rw same) in
-      rw (blocks, length-take-le n xs h)
 
 -- a session that is written is read back
 pub session_back : (x : BookSession) (r : List ℕ) → Fits x → session_of (session_bytes x ++ r) ≡ x
@@ -113,9 +112,9 @@ module _ (head : List ℕ) (start : ℕ) (long : length head ≡ start) (place :
       (found.0, rw (← drop-drop, in_block.1, append_assoc, append_assoc) (rw e at found.1))
 
   -- THE SESSIONS READ BACK
-  pub sessions_back : FitBelow (length xs) xs → (k m : ℕ) → k + m ≡ length xs → sessions_from (head ++ (session_blocks place xs ++ rest)) start k m ≡ drop k xs
+  pub sessions_back : All Fits xs → (k m : ℕ) → k + m ≡ length xs → sessions_from (head ++ (session_blocks place xs ++ rest)) start k m ≡ drop k xs
   unfolding sessions_from slot Begins
   sessions_back fits k zero e = sym (drop_of_length-le xs {i = k} (omega arith))
   sessions_back fits k (suc m) e =
       let s = session_at_lem k (omega arith) in
-      rw (s.1, session_back (get_or xs k no_session) s.0 (fits k (omega arith)), sessions_back fits (suc k) m (omega arith)) (sym (drop-cons xs k no_session (omega arith)))
+      rw (s.1, session_back (get_or xs k no_session) s.0 (all_at xs k no_session (omega arith) fits), sessions_back fits (suc k) m (omega arith)) (sym (drop-cons xs k no_session (omega arith)))

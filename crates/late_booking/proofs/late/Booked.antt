@@ -24,13 +24,10 @@ use Rattle.plan.specs.Places.{vehicle_count}
 use Rattle.plan.specs.declared.answer.Rule.TheVariants.{Length}
 use Rattle.plan.specs.declared.answer.Refusal.{Refusal}
 use Rattle.plan.specs.declared.answer.Refusal.TheVariants.{Broken, DumpUnder, OtherDump, VehiclesFull, NotLater}
-use Rattle.plan.specs.declared.answer.Answer.{Answer}
-use Rattle.plan.specs.declared.answer.Answer.TheVariants.{Fine, Refused}
 use Rattle.plan.proofs.bytes.Laws.{Begins}
 use Rattle.files.specs.Read.{read_plan, vehicle_of}
 use Rattle.files.specs.BookSession.{book_sessions}
-use Rattle.files.specs.Check.{then_check, check_plan, pair_answer}
-use Rattle.files.specs.Pairs.{failing_pair}
+use Rattle.files.specs.Check.{then_check, check_plan}
 use Rattle.files.specs.Book.{written}
 use Rattle.files.specs.Call.{totals}
 use Rattle.files.specs.Code.Reading.{Counted}
@@ -52,47 +49,47 @@ use Rattle.late_booking.proofs.longer.Reading.{longer_read}
 use Rattle.late_booking.proofs.longer.Dumped.{same_sessions, same_event, same_queue, same_busy}
 use Rattle.late_booking.proofs.late.Pushes.{put_in, put_in_map}
 use Rattle.late_booking.proofs.late.RunStands.{run_stands}
+use Rattle.std.specs.Prelude.{Result, Ok, Err}
 
 -- all of them, in the order in which the call promises them
-abbrev pub LatePromises : List ℕ → List ℕ → List ℕ → List ℕ → Answer → Type 0
-LatePromises plan dump car new r =
-    RunStands plan dump car r
-    × (InOrder plan dump car r
-    × (OneMoreToArrive plan dump car r
-    × (WholeDump plan dump car new r
-    × (HeaderStands plan dump car new r
-    × (SessionsStand plan dump car new r
-    × (EventsJoined plan dump car new r
-    × PlannedInFull plan dump car new r))))))
+pub record LatePromises (plan dump car new : List ℕ) (r : Result (Unit {0}) Refusal) : Type 0 where
+  pub stands : RunStands plan dump car r
+  pub order : InOrder plan dump car r
+  pub counts : OneMoreToArrive plan dump car r
+  pub whole : WholeDump plan dump car new r
+  pub header : HeaderStands plan dump car new r
+  pub sessions : SessionsStand plan dump car new r
+  pub events : EventsJoined plan dump car new r
+  pub full : PlannedInFull plan dump car new r
 
 -- nothing is promised of a refused call
-pub unbooked : (x : Refusal) → LatePromises [] [] [] [] (Refused x)
-unbooked x = (tt, (tt, (tt, (tt, (tt, (tt, (tt, tt)))))))
+pub unbooked : (plan dump car new : List ℕ) (x : Refusal) → LatePromises plan dump car new (Err x)
+unbooked plan dump car new x = record { stands = tt; order = tt; counts = tt; whole = tt; header = tt; sessions = tt; events = tt; full = tt }
 
 -- ---- what is known of a booking that was not refused
 
-of_test : (P : Type 0) (t : Bool) (x : Refusal) (next : Answer) → (t ≡ false → OfBooking P next) → OfBooking P (cond t (Refused x) next)
+of_test : (P : Type 0) (t : Bool) (x : Refusal) (next : Result (Unit {0}) Refusal) → (t ≡ false → OfBooking P next) → OfBooking P (cond t (Err x) next)
 of_test P true x next h = tt
 of_test P false x next h = h refl
 
-of_check : (P : Type 0) (a next : Answer) → (a ≡ Fine → OfBooking P next) → OfBooking P (then_check a next)
-of_check P Fine next h = h refl
-of_check P (Refused x) next h = tt
+of_check : (P : Type 0) (a next : Result (Unit {0}) Refusal) → (a ≡ Ok tt → OfBooking P next) → OfBooking P (then_check a next)
+of_check P (Ok u) next h = h refl
+of_check P (Err x) next h = tt
 
-of_last : (P : Type 0) (a : Answer) → (a ≡ Fine → P) → OfBooking P a
-of_last P Fine h = h refl
-of_last P (Refused x) h = tt
+of_last : (P : Type 0) (a : Result (Unit {0}) Refusal) → (a ≡ Ok tt → P) → OfBooking P a
+of_last P (Ok u) h = h refl
+of_last P (Err x) h = tt
 
-of_both : {P Q R : Type 0} → (P → Q → R) → (r : Answer) → OfBooking P r → OfBooking Q r → OfBooking R r
-of_both f Fine p q = f p q
-of_both f (Refused x) p q = tt
+of_both : {P Q R : Type 0} → (P → Q → R) → (r : Result (Unit {0}) Refusal) → OfBooking P r → OfBooking Q r → OfBooking R r
+of_both f (Ok u) p q = f p q
+of_both f (Err x) p q = tt
 
 pub record Booking (plan dump car : List ℕ) : Type 0 where
   pub one : length car ≡ 512
-  pub fine : check_plan plan ≡ Fine
+  pub fine : check_plan plan ≡ Ok tt
   pub own : is_dump plan dump ≡ true
   pub later : is_later (read_plan plan) (handled_in dump) (arrival_in car) ≡ true
-  pub longer_fine : check_plan (longer plan car) ≡ Fine
+  pub longer_fine : check_plan (longer plan car) ≡ Ok tt
 
 module _ (plan dump car : List ℕ) (space : ℕ) where
   known : OfBooking (Booking plan dump car) (late_answer plan dump car space)
@@ -116,18 +113,18 @@ module _ (plan dump car : List ℕ) (space : ℕ) where
 
   -- ---- the answer, by the tests in their order
 
-  pub new_under : space < 16384 → Refused DumpUnder ≡ late_answer plan dump car space
+  pub new_under : space < 16384 → Err DumpUnder ≡ late_answer plan dump car space
   unfolding late_answer
   new_under h = rw (lt-ltb space 16384 h)
 
   module _ (a : 16384 ≤ space) where
-    pub car-length : (length car ≡ 512 → ⊥) → Refused (Broken Length 0) ≡ late_answer plan dump car space
+    pub car-length : (length car ≡ 512 → ⊥) → Err (Broken Length 0) ≡ late_answer plan dump car space
     unfolding late_answer
     car-length h = rw (le-ltb space 16384 a, ne_eqb (length car) 512 h)
 
-    pub by_plan : length car ≡ 512 → (x : Answer) → check_blocks plan ≡ x
-        → late_answer plan dump car space ≡ then_check (then_check x (pair_answer plan (failing_pair (read_plan plan)))) (booking_answer plan dump car)
-    unfolding late_answer check_plan
+    pub by_plan : length car ≡ 512 → (x : Result (Unit {0}) Refusal) → check_plan plan ≡ x
+        → late_answer plan dump car space ≡ then_check x (booking_answer plan dump car)
+    unfolding late_answer
     by_plan h x e = rw (le-ltb space 16384 a, eq-eqb (length car) 512 h, e)
 
 -- the two events of a car that is yet to arrive
@@ -156,10 +153,10 @@ module _ (plan dump car : List ℕ) (k : Booking plan dump car) where
   abbrev x : Vehicle
   x = car_of plan car
 
-  fine : check_blocks plan ≡ Fine
+  fine : check_blocks plan ≡ Ok tt
   fine = (plan_fine plan k.fine).0
 
-  long_fine : check_blocks (longer plan car) ≡ Fine
+  long_fine : check_blocks (longer plan car) ≡ Ok tt
   long_fine = (plan_fine (longer plan car) k.longer_fine).0
 
   counted : Counted plan
@@ -175,7 +172,7 @@ module _ (plan dump car : List ℕ) (k : Booking plan dump car) where
       ∙ run_stands p x n own_count k.later
       ∙ ap (λ (v : ℕ). with_car v x (run p n)) (vehicle-count plan)
 
-  one_more : OneMoreToArrive plan dump car Fine
+  one_more : OneMoreToArrive plan dump car (Ok tt)
   one_more =
       ap (λ (s : State). totals (stop_at (read_plan (longer plan car)) s)) stands
       ∙ rw (not_empty (renege (x.arrival + x.wait) (vehicle_count plan)) (push (arrival x.arrival (vehicle_count plan)) (run p n).site.pending), one_arrives (vehicle_count plan) x (run p n).site.pending)
@@ -206,11 +203,11 @@ module _ (plan dump car : List ℕ) (k : Booking plan dump car) where
     few_joined : length (joined (vehicle_count plan) x (run p n).site.pending) < 65536
     few_joined = subst (λ (s : State). length s.site.pending < 65536) stands few_later
 
-    whole : WholeDump plan dump car new Fine
+    whole : WholeDump plan dump car new (Ok tt)
     unfolding dump_of
     whole = (fits_buffer (longer plan car) long_fine n, λ i h. rw w (dump_passes (longer plan car) _ _ i h))
 
-    header : HeaderStands plan dump car new Fine
+    header : HeaderStands plan dump car new (Ok tt)
     unfolding Begins
     header =
         let s = with_car (vehicle_count plan) x (run p n) in
@@ -221,7 +218,7 @@ module _ (plan dump car : List ℕ) (k : Booking plan dump car) where
           rw (now, was, same_queue plan car counted (run p n).site.queue, same_busy plan car counted 0 (run p n).site.places),
         )
 
-    sessions : SessionsStand plan dump car new Fine
+    sessions : SessionsStand plan dump car new (Ok tt)
     unfolding Begins
     sessions i h =
         let count : session_count dump ≡ length (run p n).site.sessions = ap session_count old.1 ∙ session_count_lem plan (run p n) old.0 few_pending few_booked in
@@ -230,7 +227,7 @@ module _ (plan dump car : List ℕ) (k : Booking plan dump car) where
         let was = ap (λ (b : List ℕ). session_at b i) old.1 ∙ session_read plan (run p n) old.0 few_pending i inside in
         rw (now, was, same_booked)
 
-    events : EventsJoined plan dump car new Fine
+    events : EventsJoined plan dump car new (Ok tt)
     unfolding vehicle_of Begins
     events =
         let a = arrival (arrival_in car) (vehicle_count plan) in
@@ -242,7 +239,7 @@ module _ (plan dump car : List ℕ) (k : Booking plan dump car) where
         ap events_in shown ∙ events_read (longer plan car) (with_car (vehicle_count plan) x (run p n)) rest few_joined ∙ ap (λ (f : Event → List ℕ). map f (push r (push a es))) same in
         rw (was, is) (put_in_map (event_bytes plan) a r es (push r (push a es)) (put_in a r es (arrival-first x.arrival x.wait (vehicle_count plan))))
 
-    full : PlannedInFull plan dump car new Fine
+    full : PlannedInFull plan dump car new (Ok tt)
     unfolding continued_answer
     full further small book room =
         let at : handled_in new ≡ n = ap handled_in w ∙ named (longer plan car) long_fine n rest ∙ ap (λ (s : State). s.handled) stands ∙ own_count in
@@ -250,30 +247,28 @@ module _ (plan dump car : List ℕ) (k : Booking plan dump car) where
         rw (le-ltb 10000000 further small, le-ltb (length book) 7168 room, k.longer_fine, own, at) (refl, refl)
 
 -- what the call leaves where it does not refuse
-left : (plan dump car buffer new : List ℕ) (r : Answer) → new ≡ dumped_after (longer plan car) (handled_in dump) r buffer
+left : (plan dump car buffer new : List ℕ) (r : Result (Unit {0}) Refusal) → new ≡ dumped_after (longer plan car) (handled_in dump) r buffer
     → OfBooking (new ≡ dump_of (longer plan car) (handled_in dump) ++ drop (length (dump_of (longer plan car) (handled_in dump))) buffer) r
 unfolding written
-left plan dump car buffer new Fine e = e
-left plan dump car buffer new (Refused x) e = tt
+left plan dump car buffer new (Ok u) e = e
+left plan dump car buffer new (Err x) e = tt
 
-pub booked : (plan dump car buffer new : List ℕ) (r : Answer) → r ≡ late_answer plan dump car (length buffer) → new ≡ dumped_after (longer plan car) (handled_in dump) r buffer
+pub booked : (plan dump car buffer new : List ℕ) (r : Result (Unit {0}) Refusal) → r ≡ late_answer plan dump car (length buffer) → new ≡ dumped_after (longer plan car) (handled_in dump) r buffer
     → LatePromises plan dump car new r
 booked plan dump car buffer new r e b =
     promises r (subst (OfBooking (Booking plan dump car)) (sym e) (known plan dump car (length buffer))) (left plan dump car buffer new r b)
   where
-    promises : (r : Answer) → OfBooking (Booking plan dump car) r
+    promises : (r : Result (Unit {0}) Refusal) → OfBooking (Booking plan dump car) r
         → OfBooking (new ≡ dump_of (longer plan car) (handled_in dump) ++ drop (length (dump_of (longer plan car) (handled_in dump))) buffer) r → LatePromises plan dump car new r
-    promises Fine k w = (
-      stands plan dump car k,
-      (
-        ordered (read_plan (longer plan car)) (handled_in dump),
-        (
-          one_more plan dump car k,
-          (
-            whole plan dump car k new _ w,
-            (header plan dump car k new _ w, (sessions plan dump car k new _ w, (events plan dump car k new _ w, full plan dump car k new _ w))),
-          ),
-        ),
-      ),
-    )
-    promises (Refused y) k w = unbooked y
+    promises (Ok u) k w =
+        record {
+          stands = stands plan dump car k;
+          order = ordered (read_plan (longer plan car)) (handled_in dump);
+          counts = one_more plan dump car k;
+          whole = whole plan dump car k new _ w;
+          header = header plan dump car k new _ w;
+          sessions = sessions plan dump car k new _ w;
+          events = events plan dump car k new _ w;
+          full = full plan dump car k new _ w;
+        }
+    promises (Err y) k w = unbooked plan dump car new y

@@ -4,12 +4,11 @@ use mathlib.Core.Bool.{Bool, true, false, cond, true≢false}
 use mathlib.Core.List.{List, [], ◌∷◌, ◌++◌, map, map-append}
 use Prim.Native.Nat.{◌<◌}
 use native.Mathlib.Omega.{arith}
-use borrow.Author.Tests.{le-ltb, ne_eqb}
 use Rattle.charger.specs.Lists.{All, none, also}
 use Rattle.charger.proofs.Lists.{all_map}
 use Rattle.engine.specs.declared.events.Event.{Event}
 use Rattle.engine.specs.Events.{before, push}
-use Rattle.engine.proofs.events.Before.{Apart, before_asym, before_trans, before_other, by_time}
+use Rattle.engine.proofs.events.Before.{Apart, before_asym, before_trans, before_other, not_later}
 use Rattle.late_booking.specs.Stands.{PutIn}
 
 -- ---- in whichever order
@@ -42,9 +41,11 @@ push_past e (x ∷ xs) ys (also h hs) = rw h (ap (λ (l : List Event). x ∷ l) 
 
 -- so a later one goes behind an earlier one
 pub push_later : (e x : Event) (es : List Event) → e.time < x.time → push x (e ∷ es) ≡ e ∷ push x es
-push_later e x es h =
-    let behind : before x e ≡ false = sym (by_time x e (ne_eqb x.time e.time (omega arith))) ∙ le-ltb x.time e.time (omega arith) in
-    rw behind
+push_later e x es h = rw (behind (before x e) refl)
+  where
+    behind : (t : Bool) → before x e ≡ t → before x e ≡ false
+    behind true g = absurd (omega (arith, not_later x e g))
+    behind false g = g
 
 record Pushed (e : Event) (l : List Event) : Type 0 where
   first : List Event

@@ -3,7 +3,8 @@ use Rattle.std.proofs.Common.{◌≡◌, ℕ, zero, suc, ◌+◌, ◌-◌, ◌*�
 use native.Mathlib.Nat.{pow-le-pow_right}
 use native.Mathlib.Numerals.{add-two}
 use lib.ListN.{get_or-append}
-use lib.Seq.{sets}
+use lib.Seq.{sets, sets-eq}
+use borrow.Rule.Slice.PartMut.{put_mid}
 use Rattle.plan.specs.Bytes.{le_at, bytes, fields, pieces}
 
 -- ---- a number that is read
@@ -101,6 +102,12 @@ pub store_step : (s t row : List ℕ) (at i : ℕ) → i < length row → sets s
 store_step s t row at i h e =
     let q : at + (i + 1) ≡ suc (at + i) = omega arith in
     rw (q, add-one) (rw (drop-cons row i 0 h) at e)
+
+-- a run of stores at once
+pub stored_at : (s new row : List ℕ) (at : ℕ) → at + length row ≤ length s → new ≡ row → put_mid at (at + length row - at) s new ≡ sets s at row
+stored_at s new row at h e =
+    let k : at + length row - at ≡ length row = omega arith in
+    rw (e, k, sets-eq row s at h, append_assoc, ← drop-drop)
 
 -- a run of stores in two parts
 pub sets_append : (l : List ℕ) (i : ℕ) (a b : List ℕ) → sets l i (a ++ b) ≡ sets (sets l i a) (i + length a) b

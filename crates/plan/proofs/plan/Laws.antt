@@ -1,18 +1,23 @@
 -- Laws of the kinds of a plan's blocks and of the table of refusals. Assumes nothing.
-use Rattle.std.proofs.Common.{◌≡◌, ℕ, zero, suc, ◌+◌, ◌*◌, ◌<◌, ◌≤◌, true, false, List, length, get_or, take, drop, refl, add-one, arith, drop-cons, le-ltb, lt-ltb, le-leb}
+use Rattle.std.proofs.Common.{◌≡◌, ℕ, zero, suc, ◌+◌, ◌*◌, ◌<◌, ◌≤◌, Bool, true, false, cond, not, Some, None, Result, Err, List, length, get_or, take, drop, sym, refl, ◌∙◌, inl, inr, add-one, arith, eqb, eq-eqb, ne_eqb, eq-or-lt_of_le, drop-cons, le-ltb, lt-ltb, le-leb}
 use lib.Dec.{eqb-suc-zero}
 use lib.Ieee.{Float, nan}
 use Rattle.plan.specs.Bytes.{le_at}
-use Rattle.plan.specs.Search.{first_index, each}
+use Rattle.plan.specs.Search.{first_index, short_of, each}
 use Rattle.plan.specs.Fields.{f64_at}
 use Rattle.plan.specs.Code.Socs.{new_among}
 use Rattle.plan.specs.Plan.{new_soc, broken, first_refusal}
 use Rattle.plan.specs.Blocks.{whole_blocks}
 use Rattle.plan.specs.Places.{kind_at, is_vehicle}
+use Rattle.plan.specs.declared.places.Kind.{Kind}
+use Rattle.plan.specs.declared.places.Kind.TheVariants.{Header, Profile, Charger, Vehicle}
+use Rattle.plan.specs.contracts.places.Kind.{the_type}
+use denote.Enum.Bare.{sameb}
+use Rattle.std.specs.Option.{is_some}
 use Rattle.plan.specs.declared.answer.Rule.{Rule}
 use Rattle.plan.specs.declared.answer.Rule.TheVariants.{Length}
+use Rattle.plan.specs.declared.answer.Refusal.{Refusal}
 use Rattle.plan.specs.declared.answer.Refusal.TheVariants.{Broken}
-use Rattle.plan.specs.declared.answer.Answer.TheVariants.{Refused}
 use Rattle.plan.proofs.blocks.Laws.{whole_blocks_lem}
 use Rattle.plan.proofs.SearchLaws.{every_same, fill_at}
 
@@ -33,15 +38,45 @@ new_read b socs n i e h =
     let read : (j : ℕ) → j < n → get_or socs j nan ≡ soc_at b j = λ j l. fill_at (soc_at b) socs n j nan e l in
     every_same _ _ 0 i (λ j a l. rw (read j (omega arith), read i h))
 
--- a rule that is tested: its first block is k, which is one of the n, or there is none
-module _ (rs : List Rule) (plan : List ℕ) (n i : ℕ) (r : Rule) (k : ℕ) (h : i < length rs) (p : r ≡ get_or rs i Length) (q : k ≡ first_index (broken r plan) 0 n) where
-  pub refusal_hit : k < n → first_refusal (drop i rs) plan n ≡ Refused (Broken r (k + 1))
-  unfolding first_refusal
-  refusal_hit l = rw (drop-cons rs i Length h, ← p, ← q, lt-ltb k n l)
+-- the test of a block's kind
+pub vehicle_test : (k : Kind) → sameb the_type k Vehicle ≡ is_vehicle k
+vehicle_test Header = refl
+vehicle_test Profile = refl
+vehicle_test Charger = refl
+vehicle_test Vehicle = refl
 
-  pub refusal_miss : n ≤ k → first_refusal (drop i rs) plan n ≡ first_refusal (drop (i + 1) rs) plan n
+-- an index that is not short of the end is the end
+pub none_test : (k end : ℕ) (none : Bool) → k ≤ end → is_some (short_of k end) ≡ not none → none ≡ eqb k end
+none_test k end none h e = elim (eq-or-lt_of_le h) [
+  | inl p ↦ at_end none (rw (le-ltb k end (omega arith)) at e) ∙ sym (eq-eqb k end p)
+  | inr q ↦ before none (rw (lt-ltb k end q) at e) ∙ sym (ne_eqb k end (λ p. absurd (omega arith)))
+]
+  where
+    at_end : (b : Bool) → false ≡ not b → b ≡ true
+    at_end true e = refl
+    at_end false e = e
+
+    before : (b : Bool) → true ≡ not b → b ≡ false
+    before true e = e
+    before false e = refl
+
+-- a rule that is tested: its first block is k, or there is none
+module _ (rs : List Rule) (plan : List ℕ) (n i : ℕ) (r : Rule) (h : i < length rs) (p : r ≡ get_or rs i Length) where
+  hit : (b : Bool) (w k : ℕ) (next : Result (Unit {0}) Refusal) → cond b (Some w) None ≡ Some k → cond b (Err (Broken r (w + 1))) next ≡ Err (Broken r (k + 1))
+  hit true w k next e = cc
+  hit false w k next e = cc
+
+  miss : (b : Bool) (w : ℕ) (next : Result (Unit {0}) Refusal) → cond b (Some w) None ≡ None → cond b (Err (Broken r (w + 1))) next ≡ next
+  miss true w next e = cc
+  miss false w next e = refl
+
+  pub refusal_hit : (k : ℕ) → short_of (first_index (broken r plan) 0 n) n ≡ Some k → first_refusal (drop i rs) plan n ≡ Err (Broken r (k + 1))
   unfolding first_refusal
-  refusal_miss l = rw (drop-cons rs i Length h, ← p, ← q, le-ltb k n l, add-one i)
+  refusal_hit k e = rw (drop-cons rs i Length h, ← p) (hit _ _ k _ e)
+
+  pub refusal_miss : short_of (first_index (broken r plan) 0 n) n ≡ None → first_refusal (drop i rs) plan n ≡ first_refusal (drop (i + 1) rs) plan n
+  unfolding first_refusal
+  refusal_miss e = rw (drop-cons rs i Length h, ← p, add-one i) (miss _ _ _ e)
 
 -- a plan that is not refused by its length has at most 113 blocks
 pub length_limit : (n : ℕ) → whole_blocks n 113 ≡ true → n ≤ 57856

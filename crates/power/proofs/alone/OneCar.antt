@@ -1,14 +1,12 @@
 -- One car among free chargers: its round is the round of all of them.
 use mathlib.Core.Path.{◌≡◌, refl, sym, ap, ◌∙◌}
-use mathlib.Core.Logic.{⊎_elim}
+use mathlib.Core.Logic.{inl, inr}
 use mathlib.Core.Bool.{Bool, true, false, true≢false, not, cond, ◌&&◌}
-use mathlib.Core.List.{List, [], ◌∷◌, ◌++◌, map, map-append, append_assoc}
-use Prim.Native.Nat.{ℕ, zero, suc, ◌+◌, ◌-◌, ◌≤◌, ◌<◌}
-use native.Mathlib.Nat.{eq-or-lt_of_le}
+use mathlib.Core.List.{List, [], ◌∷◌, ◌++◌, map, map-append}
+use Prim.Native.Nat.{ℕ, zero, suc, ◌+◌, ◌-◌, ◌<◌}
 use native.Mathlib.Omega.{arith}
-use lib.Dec.{T, ltb, ltb→lt, nltb→le}
-use lib.ListN.{length, get_or, length-append, length-map}
-use lib.Seq.{set_at}
+use lib.ListN.{length, get_or, set, length-append, length-map}
+use lib.Seq.{set_at, get_or-append_seam}
 use lib.Ieee.{Float, lt, le, ne}
 use Rattle.curve.specs.F64.{◌⊕◌, ◌⊖◌, ◌⊗◌, ratio, least}
 use Rattle.curve.specs.Curve.{power_at}
@@ -23,20 +21,15 @@ use Rattle.power.specs.ChargerState.{is_free, is_finished, is_charging, with_req
 use Rattle.power.specs.Power.{active, request, added, total, scaling, cap_of, caps, with_caps, allocate, charge}
 use Rattle.power.specs.Code.Rounds.{or_finished, any_finished, Spun, spin}
 use Rattle.power.specs.Code.Alone.{cap_alone, round_alone, CapMatchesRequest}
-use Rattle.power.specs.Code.Bank.{state_at, bank, vacant_at, Room, Stored, Cars, Gathered, spun}
-use Rattle.power.proofs.charger_state.Vacant.{and_left, and_right, free_stays, free_adds, free_map, free_capped}
+use Rattle.power.specs.Code.Bank.{Gaps, Cars, spun}
+use Rattle.power.proofs.charger_state.Vacant.{and_left, and_right, free_stays, free_map, free_capped}
 use Rattle.power.proofs.power.SameCars.{same_progress}
-use Rattle.power.proofs.power.Passes.{total-append, any_append, length-bank, bank-set}
+use Rattle.power.proofs.power.Free.{total-append, total_free, any_append, any_free, all_free-append, spin_none}
+use Rattle.power.proofs.power.Passes.{still_active}
 use Rattle.power.proofs.power.SpinRounds.{spin-finished, spin_more}
-use Rattle.power.proofs.power.Gaps.{still_active, all_free_snoc, vacant_all, any_free, spin_free}
+use Rattle.power.proofs.power.Gaps.{vacant_all}
 
 -- ---- the cap of the one car: free chargers add nothing to the sum
-
-total_free : (z : Float) (ss : List ChargerState) → all_free ss ≡ true → total z ss ≡ z
-unfolding added
-total_free z [] h = refl
-total_free z (s ∷ ss) h =
-    rw (free_adds z (draw s) s.status (and_left (is_free s.status) (all_free ss) h)) (total_free z ss (and_right (is_free s.status) (all_free ss) h))
 
 map_at : (f : ChargerState → Kw) (none : Kw) (before behind : List ChargerState) (s : ChargerState) → get_or (map f (before ++ (s ∷ behind))) (length before) none ≡ f s
 map_at f none [] behind s = refl
@@ -127,63 +120,65 @@ module _ (limit : Limit) (curve : ℕ → List Point) (k count : ℕ) (s t : Cha
 
 -- ---- the bank, with the one car at the place i
 
-module _ (F : List (List Float)) (B : List (List ℕ)) (i : ℕ) where
-  record Split (n : ℕ) : Type 0 where
-    behind : List ChargerState
-    same : bank n F B ≡ bank i F B ++ (state_at F B i ∷ behind)
-    free : all_free behind ≡ true
+-- the charger at the place i, among free ones; the place of the first is `from`
+record Split (from i : ℕ) (ss : List ChargerState) : Type 0 where
+  before : List ChargerState
+  here : ChargerState
+  behind : List ChargerState
+  same : ss ≡ before ++ (here ∷ behind)
+  place : from + length before ≡ i
+  free-before : all_free before ≡ true
+  free-behind : all_free behind ≡ true
 
-  split : (n : ℕ) → i < n → ((j : ℕ) → i + 1 ≤ j → j < n → vacant_at F B j ≡ true) → Split n
-  split zero h v = absurd (omega arith)
-  split (suc n) h v =
-      ⊎_elim
-      (λ (e : i ≡ n). record { behind = []; same = rw e; free = refl })
-      (λ (l : i < n).
-      let s = split n l (λ j a b. v j a (omega arith)) in
-      record {
-        behind = s.behind ++ (state_at F B n ∷ []);
-        same = rw s.same (append_assoc (bank i F B) (state_at F B i ∷ s.behind) (state_at F B n ∷ []));
-        free = rw (all_free_snoc s.behind (state_at F B n), s.free) (v n (omega arith) (omega arith));
-      })
-      (eq-or-lt_of_le (omega arith))
+split : (from i : ℕ) (ss : List ChargerState) → Gaps from ss (i ∷ []) → Split from i ss
+split from i [] g = cc
+split from i (s ∷ ss) (inl w) =
+    let p = split (from + 1) i ss w.1 in
+    record {
+      before = s ∷ p.before;
+      here = p.here;
+      behind = p.behind;
+      same = ap (λ (l : List ChargerState). s ∷ l) p.same;
+      place = omega (arith, p.place);
+      free-before = rw (w.0, p.free-before);
+      free-behind = p.free-behind;
+    }
+split from i (s ∷ ss) (inr w) =
+    let place : i ≡ from = cc in
+    let none : w.0 ≡ [] = cc in
+    record { before = []; here = s; behind = ss; same = refl; place = omega arith; free-before = refl; free-behind = vacant_all (from + 1) ss (rw none at w.2) }
 
--- a place where a car is has room
-pub room_for : {n i : ℕ} {F : List (List Float)} {B : List (List ℕ)} → Room n F B → Cars F B n (i ∷ []) → Room (i + 1) F B
-room_for room cars = record { float_rows = omega (arith, room.float_rows, cars.gaps.1); byte_rows = omega (arith, room.byte_rows, cars.gaps.1) }
+module _ (limit : Limit) (curve : ℕ → List Point) (count i : ℕ) (ss : List ChargerState) (cars : Cars ss (i ∷ [])) where
+  abbrev bank_split : Split 0 i ss
+  bank_split = split 0 i ss cars.gaps
 
--- where one place was gathered, the one car is there
-pub only_car : {F : List (List Float)} {B : List (List ℕ)} {n count : ℕ} (places : List ℕ) → Gathered F B n places count → count ≡ 1 → Cars F B n (get_or places 0 0 ∷ [])
-only_car [] g e = absurd (omega (arith, g.room))
-only_car (p ∷ ps) g e = rw e at g.cars
-
-module _ (limit : Limit) (curve : ℕ → List Point) (count n i : ℕ) (F : List (List Float)) (B : List (List ℕ)) (cars : Cars F B n (i ∷ [])) where
-  abbrev bank_split : Split F B i n
-  bank_split = split F B i n cars.gaps.1 cars.gaps.3
+  at_place : (d : ChargerState) → get_or ss i d ≡ bank_split.here
+  at_place d =
+      let p = bank_split in
+      let place : length p.before ≡ i = omega (arith, p.place) in
+      ap (λ (l : List ChargerState). get_or l i d) p.same ∙ (rw place at (get_or-append_seam p.before p.here p.behind d))
 
   -- the car's rounds are those of the bank
-  pub rounds_alone : (F' : List (List Float)) (B' : List (List ℕ)) (t : ChargerState) (r : D.Spun) → is_free (state_at F B i).status ≡ false → Stored i t F B F' B'
-      → spun (t ∷ []) r ≡ spin limit curve 0 count (state_at F B i ∷ []) → spun (bank n F' B') r ≡ spin limit curve 0 count (bank n F B)
-  rounds_alone F' B' t r busy w e =
-      let s = bank_split in
-      let before = vacant_all i F B (λ j l. cars.gaps.2 j (omega arith) l) in
-      let after : bank n F' B' ≡ bank i F B ++ (t ∷ s.behind) = bank-set w n cars.gaps.1 ∙ rw s.same (set_at (bank i F B) (state_at F B i) s.behind t i (length-bank i F B)) in
-      rw after
-      (ap (among limit curve (bank i F B) s.behind before s.free) e
-      ∙ sym (spin_among limit curve (bank i F B) s.behind before s.free 0 count (state_at F B i) busy)
-      ∙ rw s.same)
+  pub rounds_alone : (d t : ChargerState) (r : D.Spun) → is_free (get_or ss i d).status ≡ false
+      → spun (t ∷ []) r ≡ spin limit curve 0 count (get_or ss i d ∷ []) → spun (set ss i t) r ≡ spin limit curve 0 count ss
+  rounds_alone d t r busy e =
+      let p = bank_split in
+      let place : length p.before ≡ i = omega (arith, p.place) in
+      let after : set ss i t ≡ p.before ++ (t ∷ p.behind) = ap (λ (l : List ChargerState). set l i t) p.same ∙ set_at p.before p.here p.behind t i place in
+      let among-all = among limit curve p.before p.behind p.free-before p.free-behind in
+      let here : is_free p.here.status ≡ false = sym (ap (λ (s : ChargerState). is_free s.status) (at_place d)) ∙ busy in
+      ap (λ (l : List ChargerState). spun l r) after
+      ∙ ap among-all (e ∙ ap (λ (s : ChargerState). spin limit curve 0 count (s ∷ [])) (at_place d))
+      ∙ sym (spin_among limit curve p.before p.behind p.free-before p.free-behind 0 count p.here here)
+      ∙ sym (ap (λ (l : List ChargerState). spin limit curve 0 count l) p.same)
 
   -- with no car there either, the rounds pass at once
-  pub rounds_free : is_free (state_at F B i).status ≡ true → record { states = bank n F B; rounds = count; any = false } ≡ spin limit curve 0 count (bank n F B)
-  rounds_free h =
-      let whole : 0 + count ≡ count = omega arith in
-      sym (rw whole at (spin_free limit curve 0 count (bank n F B) (vacant_all n F B vacant)))
-    where
-      vacant : (j : ℕ) → j < n → vacant_at F B j ≡ true
-      vacant j l = go (ltb i j) (ltb→lt i j) (nltb→le i j)
-        where
-          go : (b : Bool) → (T b → i < j) → (T (not b) → j ≤ i) → vacant_at F B j ≡ true
-          go true past upto = cars.gaps.3 j (omega (arith, past tt)) l
-          go false past upto = ⊎_elim (λ (e : j ≡ i). rw e h) (λ (a : j < i). cars.gaps.2 j (omega arith) a) (eq-or-lt_of_le (upto tt))
+  pub rounds_free : (d : ChargerState) → is_free (get_or ss i d).status ≡ true → record { states = ss; rounds = count; any = false } ≡ spin limit curve 0 count ss
+  rounds_free d h =
+      let p = bank_split in
+      let here : is_free p.here.status ≡ true = sym (ap (λ (s : ChargerState). is_free s.status) (at_place d)) ∙ h in
+      let free : all_free (p.here ∷ p.behind) ≡ true = rw (here, p.free-behind) in
+      sym (spin_none limit curve count ss (ap all_free p.same ∙ rw (all_free-append p.before (p.here ∷ p.behind), p.free-before) free))
 
 -- ---- a round of a charging car, where it is known what it draws
 
@@ -192,10 +187,6 @@ progress-charging Free s h = cc
 progress-charging Charging s h = refl
 progress-charging Idle s h = cc
 progress-charging Finished s h = cc
-
-pub not_true : (b : Bool) → not b ≡ true → b ≡ false
-not_true true h = sym h
-not_true false h = refl
 
 pub least_first : (a b : Float) → (not (ne a a) && not (lt b a)) ≡ true → least a b ≡ a
 least_first a b h = go (ne a a) (lt b a) h

@@ -1,76 +1,150 @@
--- A pass over the bank: one charger after another is changed by f.
-use mathlib.Core.Path.{◌≡◌, refl, ap, ◌∙◌}
-use mathlib.Core.Logic.{⊎_elim}
-use mathlib.Core.Bool.{Bool, false}
-use mathlib.Core.List.{List, [], ◌∷◌, ◌++◌, map, map-append}
-use Prim.Native.Nat.{ℕ, zero, suc, ◌+◌, ◌≤◌, ◌<◌}
-use native.Mathlib.Nat.{eq-or-lt_of_le}
+-- A pass over the places of the cars is a pass over all chargers: it leaves the free ones between them as they are.
+use mathlib.Core.Path.{◌≡◌, refl, sym}
+use mathlib.Core.Logic.{inl, inr}
+use mathlib.Core.Bool.{Bool, true, false, cond, ◌||◌}
+use mathlib.Core.List.{List, [], ◌∷◌, ◌++◌, map}
+use Prim.Native.Nat.{ℕ, zero, suc, ◌+◌, ◌<◌}
 use native.Mathlib.Numerals.{add-one}
 use native.Mathlib.Omega.{arith}
-use lib.ListN.{length, set, length-append}
-use lib.Seq.{set_at, set-append_left}
+use lib.ListN.{length, get_or, set, drop, length-append, length-set}
+use lib.Seq.{set_at, get_or-append_seam, append_snoc, drop-cons, drop-length}
 use lib.Ieee.{Float}
+use Rattle.std.proofs.lemmas.List.{get_or_default}
 use Rattle.curve.specs.F64.{ratio}
 use Rattle.curve.specs.declared.points.Point.{Point}
 use Rattle.power.specs.declared.charger_state.ChargerState.{ChargerState}
 use Rattle.power.specs.declared.power.Limit.{Limit}
-use Rattle.power.specs.ChargerState.{progress}
+use Rattle.power.specs.ChargerState.{is_free, is_finished, draw, empty, progress}
 use Rattle.power.specs.Power.{active, request, added, total, scaling, cap_of, caps, with_caps, allocate, charge}
 use Rattle.power.specs.Code.Rounds.{or_finished, any_finished}
-use Rattle.power.specs.Code.Bank.{state_at, bank, Stored, Requested, advanced, Advanced}
+use Rattle.power.specs.Code.Bank.{Gaps, Cars, advanced}
+use Rattle.power.proofs.charger_state.Vacant.{free_stays, free_unfinished, free_adds}
 
--- the states below i were changed by f, the others not yet
-pub record Passed (f : ChargerState → ChargerState) (i : ℕ) (F : List (List Float)) (B : List (List ℕ)) (F' : List (List Float)) (B' : List (List ℕ)) : Type 0 where
-  pub done : (j : ℕ) → j < i → state_at F' B' j ≡ f (state_at F B j)
-  pub rest : (j : ℕ) → i ≤ j → state_at F' B' j ≡ state_at F B j
+-- the places listed are within the bank
+pub gaps_within : (i : ℕ) (ss : List ChargerState) (ps : List ℕ) (k : ℕ) → Gaps i ss ps → k < length ps → get_or ps k 0 < i + length ss
+gaps_within i [] ps k g h = absurd (omega (arith, rw g at h))
+gaps_within i (s ∷ ss) ps k (inl w) h = omega (arith, gaps_within (i + 1) ss ps k w.1 h)
+gaps_within i (s ∷ ss) ps zero (inr w) h = rw w.1 (omega arith)
+gaps_within i (s ∷ ss) ps (suc k) (inr w) h =
+    let behind = gaps_within (i + 1) ss w.0 k w.2 (omega (arith, rw w.1 at h)) in
+    rw w.1 (omega (arith, behind))
 
-module _ (f : ChargerState → ChargerState) (F : List (List Float)) (B : List (List ℕ)) where
-  pub passed_none : Passed f 0 F B F B
-  passed_none = record { done = λ j h. absurd (omega arith); rest = λ j h. refl }
+pub cars_within : (ss : List ChargerState) (ps : List ℕ) (k : ℕ) → Cars ss ps → k < length ps → get_or ps k 0 < length ss
+cars_within ss ps k cars h = omega (arith, gaps_within 0 ss ps k cars.gaps h)
 
-  pub passed_more : {i : ℕ} {F' F'' : List (List Float)} {B' B'' : List (List ℕ)} → Passed f i F B F' B' → Stored i (f (state_at F' B' i)) F' B' F'' B'' → Passed f (i + 1) F B F'' B''
-  passed_more {i} p s =
-      record {
-        done = λ j h.
-            ⊎_elim
-            (λ (e : j ≡ i). rw e (s.same ∙ ap f (p.rest i (omega arith))))
-            (λ (l : j < i). s.other j (λ e. omega arith) ∙ p.done j l)
-            (eq-or-lt_of_le (omega arith));
-        rest = λ j h. s.other j (λ e. omega arith) ∙ p.rest j (omega arith);
-      }
+module _ (f : ChargerState → ChargerState) where
+  -- the bank after the turns of the chargers at the places ps
+  abbrev pub passed : List ℕ → List ChargerState → List ChargerState
+  passed [] ss = ss
+  passed (p ∷ ps) ss = passed ps (set ss p (f (get_or ss p empty)))
 
-  pub passed_all : (n : ℕ) {F' : List (List Float)} {B' : List (List ℕ)} → Passed f n F B F' B' → bank n F' B' ≡ map f (bank n F B)
-  passed_all n {F'} {B'} p = go n (omega arith)
-    where
-      go : (m : ℕ) → m ≤ n → bank m F' B' ≡ map f (bank m F B)
-      go zero h = refl
-      go (suc m) h = rw (map-append, go m (omega arith), p.done m (omega arith))
+  -- what they add up to, one after another
+  abbrev pub tallied : {A : Type 0} → (A → ChargerState → A) → List ℕ → A → List ChargerState → A
+  tallied add [] a ss = a
+  tallied add (p ∷ ps) a ss = tallied add ps (add a (f (get_or ss p empty))) (set ss p (f (get_or ss p empty)))
 
-pub total-append : (sum : Float) (ss xs : List ChargerState) → total sum (ss ++ xs) ≡ total (total sum ss) xs
-total-append sum [] xs = refl
-total-append sum (s ∷ ss) xs = total-append (added sum s) ss xs
+  -- of the pass that began with a and the bank ss, the first k turns are over, which left a' and ss'
+  pub record Passing {A : Type 0} (add : A → ChargerState → A) (ps : List ℕ) (a : A) (ss : List ChargerState) (k : ℕ) (a' : A) (ss' : List ChargerState) : Type 0 where
+    pub size : length ss' ≡ length ss
+    pub state : passed (drop k ps) ss' ≡ passed ps ss
+    pub tally : tallied add (drop k ps) a' ss' ≡ tallied add ps a ss
 
-pub any_append : (b : Bool) (ss xs : List ChargerState) → any_finished b (ss ++ xs) ≡ any_finished (any_finished b ss) xs
-any_append b [] xs = refl
-any_append b (s ∷ ss) xs = any_append (or_finished b s) ss xs
+  module _ {A : Type 0} {add : A → ChargerState → A} {ps : List ℕ} {a : A} {ss : List ChargerState} where
+    pub passing_none : Passing add ps a ss 0 a ss
+    passing_none = record { size = refl; state = refl; tally = refl }
 
-bank-kept : {i : ℕ} {s : ChargerState} {F F' : List (List Float)} {B B' : List (List ℕ)} → Stored i s F B F' B' → (m : ℕ) → m ≤ i → bank m F' B' ≡ bank m F B
-bank-kept w zero h = refl
-bank-kept w (suc m) h = rw (bank-kept w m (omega arith), w.other m (λ e. omega arith))
+    -- d stands for a charger past the bank, where no place is
+    pub passing_more : {k : ℕ} {a' a'' : A} {s : ChargerState} {ss' : List ChargerState} (d : ChargerState) → Cars ss ps → k < length ps → Passing add ps a ss k a' ss'
+        → s ≡ f (get_or ss' (get_or ps k 0) d) → a'' ≡ add a' s → Passing add ps a ss (k + 1) a'' (set ss' (get_or ps k 0) s)
+    passing_more {k} {ss' = ss'} d cars h p e e' =
+        let within : get_or ps k 0 < length ss' = omega (arith, p.size, cars_within ss ps k cars h) in
+        let here : get_or ss' (get_or ps k 0) d ≡ get_or ss' (get_or ps k 0) empty = get_or_default ss' (get_or ps k 0) d empty within in
+        record {
+          size = rw length-set p.size;
+          state = rw (e, here, add-one k) (rw (drop-cons ps k 0 h) at p.state);
+          tally = rw (e', e, here, add-one k) (rw (drop-cons ps k 0 h) at p.tally);
+        }
 
-bank_more : {i : ℕ} {s : ChargerState} {F F' : List (List Float)} {B B' : List (List ℕ)} → Stored i s F B F' B' → bank (i + 1) F' B' ≡ bank i F B ++ (s ∷ [])
-bank_more {i} w = rw (add-one, bank-kept w i (omega arith), w.same)
+    pub passing_done : {k : ℕ} {a' : A} {ss' : List ChargerState} → k ≡ length ps → Passing add ps a ss k a' ss' → (ss' ≡ passed ps ss) × (a' ≡ tallied add ps a ss)
+    passing_done {k} h p = (rw (h, drop-length ps) at p.state, rw (h, drop-length ps) at p.tally)
 
--- the sum over the states that were passed
-pub sum_more : (curve : ℕ → List Point) (z : Float) {i : ℕ} {sum r : Float} {F F' : List (List Float)} {B B' : List (List ℕ)}
-    → Requested curve i sum F B F' B' r → sum ≡ total z (bank i F B) → r ≡ total z (bank (i + 1) F' B')
-sum_more curve z {i} {F = F} {B = B} w e = rw (bank_more w.state, total-append z (bank i F B), ← e) w.sum_now
+  module _ (still : (s : ChargerState) → is_free s.status ≡ true → f s ≡ s) where
+    turned : (before : List ChargerState) (s : ChargerState) (ss : List ChargerState) (i : ℕ) → length before ≡ i
+        → set (before ++ (s ∷ ss)) i (f (get_or (before ++ (s ∷ ss)) i empty)) ≡ (before ++ (f s ∷ [])) ++ ss
+    turned before s ss i e =
+        let here : get_or (before ++ (s ∷ ss)) i empty ≡ s = rw e at (get_or-append_seam before s ss empty) in
+        rw (here, set_at before s ss (f s) i e) (sym (append_snoc before (f s) ss))
 
-pub any_more : (factor : Float) {i : ℕ} {any r : Bool} {F F' : List (List Float)} {B B' : List (List ℕ)}
-    → Advanced factor i any F B F' B' r → any ≡ any_finished false (bank i F B) → r ≡ any_finished false (bank (i + 1) F' B')
-any_more factor {i} {F = F} {B = B} w e = rw (bank_more w.state, any_append false (bank i F B), ← e) w.any_now
+    one_more : (before : List ChargerState) (s : ChargerState) (i : ℕ) → length before ≡ i → length (before ++ (s ∷ [])) ≡ i + 1
+    one_more before s i e = rw length-append (omega arith)
 
--- both passes are a round of power and progress
+    pass_behind : (before ss : List ChargerState) (i : ℕ) (ps : List ℕ) → length before ≡ i → Gaps i ss ps → passed ps (before ++ ss) ≡ before ++ map f ss
+    pass_behind before [] i ps e g = rw g
+    pass_behind before (s ∷ ss) i ps e (inl w) =
+        rw (still s w.0, ← append_snoc before s ss, ← append_snoc before s (map f ss)) (pass_behind (before ++ (s ∷ [])) ss (i + 1) ps (one_more before s i e) w.1)
+    pass_behind before (s ∷ ss) i ps e (inr w) =
+        rw (w.1, turned before s ss i e, ← append_snoc before (f s) (map f ss)) (pass_behind (before ++ (f s ∷ [])) ss (i + 1) w.0 (one_more before (f s) i e) w.2)
+
+    pub pass_all : (ss : List ChargerState) (ps : List ℕ) → Cars ss ps → passed ps ss ≡ map f ss
+    pass_all ss ps cars = pass_behind [] ss 0 ps refl cars.gaps
+
+    module _ {A : Type 0} (add : A → ChargerState → A) (free-adds : (a : A) (s : ChargerState) → is_free s.status ≡ true → add a s ≡ a)
+        (whole : A → List ChargerState → A) (none : (a : A) → whole a [] ≡ a) (more : (a : A) (s : ChargerState) (ss : List ChargerState) → whole a (s ∷ ss) ≡ whole (add a s) ss) where
+      tally_behind : (before ss : List ChargerState) (i : ℕ) (ps : List ℕ) (a : A) → length before ≡ i → Gaps i ss ps → tallied add ps a (before ++ ss) ≡ whole a (map f ss)
+      tally_behind before [] i ps a e g = rw g (sym (none a))
+      tally_behind before (s ∷ ss) i ps a e (inl w) =
+          rw (still s w.0, more a s (map f ss), free-adds a s w.0, ← append_snoc before s ss) (tally_behind (before ++ (s ∷ [])) ss (i + 1) ps a (one_more before s i e) w.1)
+      tally_behind before (s ∷ ss) i ps a e (inr w) =
+          let here : get_or (before ++ (s ∷ ss)) i empty ≡ s = rw e at (get_or-append_seam before s ss empty) in
+          rw (w.1, turned before s ss i e, here, more a (f s) (map f ss)) (tally_behind (before ++ (f s ∷ [])) ss (i + 1) w.0 (add a (f s)) (one_more before (f s) i e) w.2)
+
+      pub tally_all : (a : A) (ss : List ChargerState) (ps : List ℕ) → Cars ss ps → tallied add ps a ss ≡ whole a (map f ss)
+      tally_all a ss ps cars = tally_behind [] ss 0 ps a refl cars.gaps
+
+-- ---- the two passes leave free chargers alone, and these add nothing
+
+pub still_active : (change : ChargerState → ChargerState) (s : ChargerState) → is_free s.status ≡ true → active change s ≡ s
+still_active change s h = rw h
+
+pub still-advanced : (factor : Float) (s : ChargerState) → is_free s.status ≡ true → advanced factor s ≡ s
+still-advanced factor s h = rw h (free_stays s.status s h)
+
+pub added-free : (sum : Float) (s : ChargerState) → is_free s.status ≡ true → added sum s ≡ sum
+unfolding added
+added-free sum s h = free_adds sum (draw s) s.status h
+
+pub or_finished-free : (any : Bool) (s : ChargerState) → is_free s.status ≡ true → or_finished any s ≡ any
+or_finished-free any s h = rw (free_unfinished s.status h)
+
+-- a turn's answer, joined to those before it
+pub or_finished_with : (any b : Bool) (s : ChargerState) → b ≡ is_finished s.status → (any || b) ≡ or_finished any s
+or_finished_with any b s e = rw (← e) (go any b)
+  where
+    go : (a b : Bool) → (a || b) ≡ cond b true a
+    go true true = refl
+    go true false = refl
+    go false true = refl
+    go false false = refl
+
+module _ (curve : ℕ → List Point) where
+  abbrev pub asking : ChargerState → ChargerState
+  asking = active (request curve)
+
+  pub asked_all : (ss : List ChargerState) (ps : List ℕ) → Cars ss ps → passed asking ps ss ≡ map asking ss
+  asked_all = pass_all asking (still_active (request curve))
+
+  pub summed_all : (ss : List ChargerState) (ps : List ℕ) → Cars ss ps → tallied asking added ps (ratio 0 1) ss ≡ total (ratio 0 1) (map asking ss)
+  summed_all = tally_all asking (still_active (request curve)) added added-free total (λ a. refl) (λ a s ss. refl) (ratio 0 1)
+
+module _ (factor : Float) where
+  pub moved_all : (ss : List ChargerState) (ps : List ℕ) → Cars ss ps → passed (advanced factor) ps ss ≡ map (advanced factor) ss
+  moved_all = pass_all (advanced factor) (still-advanced factor)
+
+  pub any_all : (ss : List ChargerState) (ps : List ℕ) → Cars ss ps → tallied (advanced factor) or_finished ps false ss ≡ any_finished false (map (advanced factor) ss)
+  any_all = tally_all (advanced factor) (still-advanced factor) or_finished or_finished-free any_finished (λ a. refl) (λ a s ss. refl) false
+
+-- ---- both passes are a round of power and progress
+
 advanced_all : (factor : Float) (ss : List ChargerState) → map (advanced factor) ss ≡ map progress (with_caps (map (cap_of factor) ss) ss)
 advanced_all factor [] = refl
 advanced_all factor (s ∷ ss) = rw (advanced_all factor ss)
@@ -80,20 +154,3 @@ pub both : (limit : Limit) (curve : ℕ → List Point) (ss : List ChargerState)
     → after ≡ charge limit curve ss
 unfolding allocate caps
 both limit curve ss {asked} {sum = sum} {factor = factor} a s f m = rw (m, advanced_all factor asked, f, s, a)
-
-pub length-bank : (n : ℕ) (F : List (List Float)) (B : List (List ℕ)) → length (bank n F B) ≡ n
-length-bank zero F B = refl
-length-bank (suc n) F B = rw length-append (omega (arith, length-bank n F B))
-
--- a store is a `set` of the places
-pub bank-set : {i : ℕ} {s : ChargerState} {F F' : List (List Float)} {B B' : List (List ℕ)} → Stored i s F B F' B' → (n : ℕ) → i < n → bank n F' B' ≡ set (bank n F B) i s
-bank-set w zero h = absurd (omega arith)
-bank-set {i} {s} {F} {F'} {B} {B'} w (suc n) h =
-    ⊎_elim
-    (λ (e : i ≡ n).
-    let same : state_at F' B' n ≡ s = rw e at w.same in
-    rw (e, bank-kept w n (omega arith), same, set_at (bank n F B) (state_at F B n) [] s n (length-bank n F B)))
-    (λ (l : i < n).
-    let within : i < length (bank n F B) = rw (length-bank n F B) l in
-    rw (set-append_left (bank n F B) (state_at F B n ∷ []) i s within, bank-set w n l, w.other n (λ e. omega arith)))
-    (eq-or-lt_of_le (omega arith))

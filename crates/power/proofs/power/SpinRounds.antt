@@ -2,7 +2,7 @@
 use mathlib.Core.Path.{◌≡◌}
 use mathlib.Core.Bool.{true, false}
 use mathlib.Core.List.{List}
-use Prim.Native.Nat.{ℕ, suc, ◌+◌, ◌-◌, ◌≤◌, ◌<◌}
+use Prim.Native.Nat.{ℕ, suc, ◌+◌, ◌-◌, ◌<◌}
 use native.Mathlib.Omega.{arith}
 use Rattle.curve.specs.declared.points.Point.{Point}
 use Rattle.power.specs.declared.charger_state.ChargerState.{ChargerState}
@@ -22,8 +22,3 @@ module _ (limit : Limit) (curve : ℕ → List Point) (k count : ℕ) (ss : List
   spin_more h f =
       let e : count - k ≡ suc (count - (k + 1)) = omega arith in
       rw (e, f)
-
-  pub spin_out : count ≤ k → spin limit curve k (count - k) ss ≡ record { states = ss; rounds = k; any = false }
-  spin_out h =
-      let e : count - k ≡ 0 = omega arith in
-      rw e

@@ -14,16 +14,16 @@ put_line-requires c =
     let room : length c.args.out.now ≡ 147 = search rules in
     simp length-take (omega arith)
 
-pub returns-in-Refused : goal.returns-in-Refused
+pub returns-in-Err : goal.returns-in-Err
 unfolding output
-returns-in-Refused c =
-    let e : line (take 3 (refusal_numbers c.in-Refused.refusal)) ≡ output c.args.book.now = rw (← c.totals-answer.ensures, c.in-Refused.is) in
+returns-in-Err c =
+    let e : line (take 3 (refusal_numbers c.in-Err.refusal)) ≡ output c.args.book.now = rw (← c.totals.ensures, c.in-Err.is) in
     let all = shown _ _ _ _ (rw (c.check_numbers-numbers.ensures, e) at c.put_line.ensures.stored) (rw (c.check_numbers-numbers.ensures, e) at c.put_line.ensures.length) in
     record { counted = all.0; text = all.1.0; whole = all.1.1 }
 
-pub returns-in-Summed : goal.returns-in-Summed
+pub returns-in-Ok : goal.returns-in-Ok
 unfolding output
-returns-in-Summed c =
-    let e : line (totals_numbers c.in-Summed.t) ≡ output c.args.book.now = rw (← c.totals-answer.ensures, c.in-Summed.is) in
-    let all = shown _ _ _ _ (rw (c.totals_numbers-numbers.ensures, e) at c.put_line-in-Summed.ensures.stored) (rw (c.totals_numbers-numbers.ensures, e) at c.put_line-in-Summed.ensures.length) in
+returns-in-Ok c =
+    let e : line (totals_numbers c.in-Ok.t) ≡ output c.args.book.now = rw (← c.totals.ensures, c.in-Ok.is) in
+    let all = shown _ _ _ _ (rw (c.totals_numbers.ensures, e) at c.put_line-in-Ok.ensures.stored) (rw (c.totals_numbers.ensures, e) at c.put_line-in-Ok.ensures.length) in
     record { counted = all.0; text = all.1.0; whole = all.1.1 }

@@ -15,12 +15,6 @@ pub returns-then-not-passes : goal.returns-then-not-passes
 returns-then-not-passes c =
     sym (every-broken (passing c.args.book.now) c.loop-k.k c.args.n (omega arith) (sym c.passes.ensures ∙ c.if-not-passes.true)) ∙ c.loop-k.invariant
 
-pub overflow_add-k : goal.overflow_add-k
-overflow_add-k c = omega arith
-
-pub loop-k-smaller : goal.loop-k-smaller
-loop-k-smaller c = omega arith
-
 pub loop-k-preserved : goal.loop-k-preserved
 loop-k-preserved c =
     every_again (passing c.args.book.now) c.loop-k.k c.args.n (omega arith) (sym c.passes.ensures ∙ c.if-not-passes.false) c.loop-k.invariant

@@ -14,6 +14,3 @@ passing b k = passes (k + 1) (block b k)
 
 abbrev pub invariant-loop-k : goal.invariant-loop-k
 invariant-loop-k l = every (passing l.book) l.k (l.n - l.k) ≡ every (passing l.book) 0 l.n
-
-abbrev pub decreases-loop-k : goal.decreases-loop-k
-decreases-loop-k l = l.n - l.k

@@ -18,12 +18,6 @@ overflow_mul-k c = omega arith
 pub put_numbers-requires : goal.put_numbers-requires
 put_numbers-requires c = omega arith
 
-pub overflow_add-k : goal.overflow_add-k
-overflow_add-k c = omega arith
-
-pub loop-k-smaller : goal.loop-k-smaller
-loop-k-smaller c = omega arith
-
 pub loop-k-preserved : goal.loop-k-preserved
 unfolding numbers_at
 loop-k-preserved c =

@@ -9,19 +9,19 @@ use borrow.Author.Rules.{rules}
 use Rattle.book_reader.proofs.numbers.read_numbers.Goals as goal
 
 pub header_of-h-requires : goal.header_of-h-requires
-header_of-h-requires c = omega (arith, (fine_room c.args.book.now (sym c.test_book-answer.ensures ∙ c.in-Fine.is)).blocks)
+header_of-h-requires c = omega (arith, (fine_room c.args.book.now (sym c.test_book-answer.ensures ∙ c.in-Ok.is)).blocks)
 
 pub put_sessions-requires : goal.put_sessions-requires
-put_sessions-requires c = (rw c.header_of-h.ensures (fine_room _ (sym c.test_book-answer.ensures ∙ c.in-Fine.is)), search rules)
+put_sessions-requires c = (rw c.header_of-h.ensures (fine_room _ (sym c.test_book-answer.ensures ∙ c.in-Ok.is)), search rules)
 
-pub returns-in-Refused : goal.returns-in-Refused
-returns-in-Refused c =
-    let e : read_book c.args.book.now ≡ refused _ = refused_read _ _ (sym c.test_book-answer.ensures ∙ c.in-Refused.is) in
+pub returns-in-Err : goal.returns-in-Err
+returns-in-Err c =
+    let e : read_book c.args.book.now ≡ refused _ = refused_read _ _ (sym c.test_book-answer.ensures ∙ c.in-Err.is) in
     let p : Promises c.args.book.now (read_book c.args.book.now) = promised _ (λ k. (c.type_inv.book k).fits) _ refl in
-    record { answer = c.check_numbers-numbers.ensures ∙ (ap check_numbers c.test_book-answer.ensures ∙ same_numbers _); header = rw e; sessions = rw e; writer = p.0; comes_back = p.1.0; unique = p.1.1.0; runs = p.1.1.1 }
+    record { answer = c.check_numbers-numbers.ensures ∙ (ap check_numbers c.test_book-answer.ensures ∙ same_numbers _); header = rw e; sessions = rw e; writer = p.writer; comes_back = p.comes_back; unique = p.unique; runs = p.runs }
 
-pub returns-in-Fine : goal.returns-in-Fine
-returns-in-Fine c =
-    let e : read_book c.args.book.now ≡ contents (contents_of c.args.book.now) = fine_read _ (sym c.test_book-answer.ensures ∙ c.in-Fine.is) in
+pub returns-in-Ok : goal.returns-in-Ok
+returns-in-Ok c =
+    let e : read_book c.args.book.now ≡ contents (contents_of c.args.book.now) = fine_read _ (sym c.test_book-answer.ensures ∙ c.in-Ok.is) in
     let p : Promises c.args.book.now (read_book c.args.book.now) = promised _ (λ k. (c.type_inv.book k).fits) _ refl in
-    record { answer = c.check_numbers-numbers.ensures ∙ (ap check_numbers c.test_book-answer.ensures ∙ same_numbers _); header = c.header_numbers.ensures ∙ rw (e, session_count_lem, c.header_of-h.ensures); sessions = rw e c.put_sessions.ensures; writer = p.0; comes_back = p.1.0; unique = p.1.1.0; runs = p.1.1.1 }
+    record { answer = c.check_numbers-numbers.ensures ∙ (ap check_numbers c.test_book-answer.ensures ∙ same_numbers _); header = c.header_numbers.ensures ∙ rw (e, session_count_lem, c.header_of-h.ensures); sessions = rw e c.put_sessions.ensures; writer = p.writer; comes_back = p.comes_back; unique = p.unique; runs = p.runs }

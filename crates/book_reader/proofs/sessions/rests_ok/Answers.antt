@@ -20,12 +20,6 @@ pub returns-then-not-rest_ok : goal.returns-then-not-rest_ok
 returns-then-not-rest_ok c =
     sym (every-broken (rest_ok c.args.book.now) c.loop-j.j ((c.args.n + 4) / 5) (omega arith) (sym c.rest_ok.ensures ∙ c.if-not-rest_ok.true)) ∙ c.loop-j.invariant
 
-pub overflow_add-j : goal.overflow_add-j
-overflow_add-j c = omega arith
-
-pub loop-j-smaller : goal.loop-j-smaller
-loop-j-smaller c = omega arith
-
 pub loop-j-preserved : goal.loop-j-preserved
 loop-j-preserved c =
     every_again (rest_ok c.args.book.now) c.loop-j.j ((c.args.n + 4) / 5) (omega arith) (sym c.rest_ok.ensures ∙ c.if-not-rest_ok.false) c.loop-j.invariant

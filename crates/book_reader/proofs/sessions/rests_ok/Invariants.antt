@@ -7,6 +7,3 @@ use Rattle.book_reader.proofs.sessions.rests_ok.Given as goal
 
 abbrev pub invariant-loop-j : goal.invariant-loop-j
 invariant-loop-j l = every (rest_ok l.book) l.j ((l.n + 4) / 5 - l.j) ≡ every (rest_ok l.book) 0 ((l.n + 4) / 5)
-
-abbrev pub decreases-loop-j : goal.decreases-loop-j
-decreases-loop-j l = (l.n + 4) / 5 - l.j

@@ -2,7 +2,6 @@
 use mathlib.Core.Path.{sym, ◌∙◌}
 use native.Mathlib.Omega.{arith}
 use Rattle.files.proofs.SessionsIn.{in_book, past_last}
-use Rattle.book_reader.proofs.sessions.Laws.{in_rest}
 use Rattle.book_reader.proofs.sessions.session_at.Goals as goal
 
 pub returns-then-n-k : goal.returns-then-n-k
@@ -10,5 +9,4 @@ returns-then-n-k c =
     c.no_session.ensures ∙ sym (past_last c.args.book.now c.args.k (omega (arith, c.requires.count)))
 
 pub returns : goal.returns
-returns c =
-    c.read_session.ensures ∙ (rw c.offset_of-at.ensures (in_rest c.args.book.now c.args.k) ∙ sym (in_book c.args.book.now c.args.k (omega (arith, c.requires.count))))
+returns c = c.session_in.ensures ∙ sym (in_book c.args.book.now c.args.k (omega (arith, c.requires.count)))

@@ -7,6 +7,3 @@ use Rattle.book_reader.proofs.sessions.sessions_ok.Given as goal
 
 abbrev pub invariant-loop-k : goal.invariant-loop-k
 invariant-loop-k l = every (session_ok l.book) l.k (l.n - l.k) ≡ every (session_ok l.book) 0 l.n
-
-abbrev pub decreases-loop-k : goal.decreases-loop-k
-decreases-loop-k l = l.n - l.k

@@ -1,17 +1,17 @@
 -- `book_reader::totals::totals` meets its contract. Assumes nothing.
-use mathlib.Core.Path.{ap}
-use Rattle.book_reader.specs.declared.totals.TotalsAnswer.TheVariants.{Summed}
-use Rattle.book_reader.proofs.reader.Told.{told_refused, told_read, told_beside}
+use Rattle.std.proofs.Common.{◌∙◌, ap, Ok}
+use Rattle.std.proofs.lemmas.Result.{err_from_is_err_and}
+use Rattle.book_reader.proofs.reader.Told.{told_refused, told_read}
 use Rattle.book_reader.proofs.totals.totals.Goals as goal
 
+pub returns-in_err-read : goal.returns-in_err-read
+returns-in_err-read c =
+    let e = err_from_is_err_and c.from_residual.result c.from_residual.ensures.1 in
+    rw (e.1, e.2, told_refused _ _ c.read_book.ensures.answer _ c.in_err-read.was)
+
 pub sum_up-requires : goal.sum_up-requires
-sum_up-requires c =
-    (told_beside _ _ _ c.read_book-read.ensures.answer _ c.in-Read.is c.read_book-read.ensures.beside).0
+sum_up-requires c = c.as_slice.ensures.fits
 
-pub returns-in-Refused : goal.returns-in-Refused
-returns-in-Refused c =
-    rw (told_refused _ _ _ c.read_book-read.ensures.answer _ c.in-Refused.is)
-
-pub returns-in-Read : goal.returns-in-Read
-returns-in-Read c =
-    rw (told_read _ _ _ c.read_book-read.ensures.answer _ c.in-Read.is) (ap Summed c.sum_up.ensures)
+pub returns : goal.returns
+returns c =
+    rw (told_read _ _ c.read_book.ensures.answer _ c.in_ok-read.was) (ap Ok (c.sum_up.ensures ∙ rw c.as_slice.ensures.value))

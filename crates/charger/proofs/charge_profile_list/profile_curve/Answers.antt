@@ -15,14 +15,11 @@ returns-then-curves-profile c =
     let short : length c.args.curves.now < 32 * c.args.profile + get_or c.args.lens.now c.args.profile 0 = omega arith in
     sym (too_short c.args.curves.now c.args.lens.now c.args.profile c.if-lens-profile.false short)
 
-pub overflow_add-end : goal.overflow_add-end
-overflow_add-end c = omega (arith, c.shared_slice_known-2-1.given c.args.profile)
-
 pub returns-then-curves-end : goal.returns-then-curves-end
 returns-then-curves-end c =
-    let short : length c.args.curves.now < 32 * c.args.profile + get_or c.args.lens.now c.args.profile 0 = omega (arith, c.place_of.ensures) in
+    let short : length c.args.curves.now < 32 * c.args.profile + get_or c.args.lens.now c.args.profile 0 = omega (arith, c.from.ensures) in
     sym (too_short c.args.curves.now c.args.lens.now c.args.profile c.if-lens-profile.false short)
 
 pub returns : goal.returns
 returns c =
-    sym (inside c.args.curves.now c.args.lens.now c.args.profile _ c.if-lens-profile.false (ap (λ (n : ℕ). 32 * c.args.profile + n) c.place_of.ensures) c.if-curves-end.false)
+    sym (inside c.args.curves.now c.args.lens.now c.args.profile _ c.if-lens-profile.false (ap (λ (n : ℕ). 32 * c.args.profile + n) c.from.ensures) c.if-curves-end.false)

@@ -1,13 +1,7 @@
--- `vehicle::fits` meets its contract. Each arm is given which constructor `connector_of` returned. Assumes nothing.
-use mathlib.Core.Path.{sym, ap, ◌∙◌}
-use Rattle.charger.specs.Connector.{is_connector}
+-- `vehicle::fits` meets its contract.
 use Rattle.charger.specs.Vehicle.{compatible}
 use Rattle.charger.proofs.vehicle.fits.Goals as goal
 
-pub returns-in-Connector : goal.returns-in-Connector
+pub returns : goal.returns
 unfolding compatible
-returns-in-Connector c = ap is_connector (sym c.in-Connector.is ∙ c.connector_of.ensures)
-
-pub returns-in-Nothing : goal.returns-in-Nothing
-unfolding compatible
-returns-in-Nothing c = ap is_connector (sym c.in-Nothing.is ∙ c.connector_of.ensures)
+returns c = rw (c.is_some.ensures, c.connector_of.ensures)

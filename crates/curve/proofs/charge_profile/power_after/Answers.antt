@@ -11,12 +11,12 @@ unfolding of_bits ratio
 returns-then-n-eq0 c = sym (power_of_none c.args.curve.now c.args.soc _ c.if-n-eq0.true c.requires)
 
 pub returns-then-i-eq0 : goal.returns-then-i-eq0
-returns-then-i-eq0 c = sym (power_before c.args.curve.now c.args.soc _ c.if-n-eq0.false c.if-i-eq0.true)
+returns-then-i-eq0 c = sym (power_before c.args.curve.now c.args.soc _ _ c.if-n-eq0.false c.if-i-eq0.true)
 
 pub returns-then-i-n : goal.returns-then-i-n
-returns-then-i-n c = sym (power_past c.args.curve.now c.args.soc _ c.if-n-eq0.false c.if-i-n.true)
+returns-then-i-n c = sym (power_past c.args.curve.now c.args.soc _ _ c.if-n-eq0.false c.if-i-n.true)
 
 pub returns : goal.returns
 returns c =
     let inside = lt_of_le-ne c.requires c.if-i-n.false in
-    rw (c.between.ensures, c.point_at.ensures, c.point_at-2.ensures) (sym (power_between c.args.curve.now c.args.soc _ c.if-i-eq0.false inside))
+    rw c.between.ensures (sym (power_between c.args.curve.now c.args.soc _ _ c.if-i-eq0.false inside))

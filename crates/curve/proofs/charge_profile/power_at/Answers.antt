@@ -4,4 +4,4 @@ use Rattle.curve.proofs.charge_profile.power_at.Goals as goal
 
 pub returns : goal.returns
 unfolding power_at
-returns c = rw (c.power_after.ensures, c.reached_by_points.ensures.found)
+returns c = rw (c.power_after.ensures, c.reached.ensures.found)

@@ -1,14 +1,14 @@
-use Rattle.curve.proofs.points.ByPlace.{starts, past, stops, goes_on}
+use Rattle.std.proofs.Common.{refl}
+use Rattle.curve.specs.Curve.{reached}
+use Rattle.curve.proofs.points.ByPlace.{past, stops, goes_on, reached_step}
 use Rattle.curve.proofs.points.reached.Goals as goal
 
-pub loop-i-init : goal.loop-i-init
-loop-i-init c = starts _ _
-
 pub loop-i-preserved : goal.loop-i-preserved
-loop-i-preserved c = goes_on _ _ _ c.loop-i.invariant _ c.loop-i-test.true c.if-soc-points.false
+loop-i-preserved c = goes_on _ _ _ c.loop-i.invariant _ (reached_step c.args.soc) c.loop-i-test.true c.if-soc-p.false
 
-pub returns-then-soc-points : goal.returns-then-soc-points
-returns-then-soc-points c = stops _ _ _ c.loop-i.invariant _ c.loop-i-test.true c.if-soc-points.true
+pub returns-then-soc-p-clause-found : goal.returns-then-soc-p-clause-found
+returns-then-soc-p-clause-found c = stops _ _ _ c.loop-i.invariant _ (reached_step c.args.soc) c.loop-i-test.true c.if-soc-p.true
 
-pub returns-after-loop-i : goal.returns-after-loop-i
-returns-after-loop-i c = past _ _ _ c.loop-i.invariant c.loop-i-test.false
+pub returns-clause-found : goal.returns-clause-found
+unfolding reached
+returns-clause-found c = past _ _ _ c.loop-i.invariant c.loop-i-test.false refl

@@ -1,15 +1,9 @@
 -- `sort::insert` meets its contract. The loop's invariant: to put what is carried among the points from j on gives what is asked.
-use Rattle.std.proofs.Common.{◌≡◌, ◌+◌, ◌-◌, ◌≤◌, ◌++◌, length, take, drop}
-use Rattle.curve.specs.Code.Rows.{points}
+use Rattle.std.proofs.Common.{◌≡◌, ◌+◌, ◌++◌, take, drop}
 use Rattle.curve.specs.Curve.{insert}
 use Rattle.curve.proofs.sort.insert.Given as goal
 
 abbrev pub invariant-loop-j : goal.invariant-loop-j
 invariant-loop-j l =
-    (l.j ≤ l.n)
-    × (length l.curve ≡ length l.initial.curve)
-    × (points (take l.j l.curve) ++ insert l.carry (points (drop l.j (take l.n l.curve))) ≡ insert l.initial.carry (points (take l.n l.initial.curve)))
+    (take l.j l.curve ++ insert l.carry (drop l.j (take l.n l.curve)) ≡ insert l.initial.carry (take l.n l.initial.curve))
     × (drop (l.n + 1) l.curve ≡ drop (l.n + 1) l.initial.curve)
-
-abbrev pub decreases-loop-j : goal.decreases-loop-j
-decreases-loop-j l = l.n - l.j

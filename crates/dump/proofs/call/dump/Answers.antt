@@ -1,5 +1,6 @@
 -- `dump::call::dump` meets its contract. Assumes nothing.
-use mathlib.Core.Path.{◌≡◌, sym, ◌∙◌}
+use Rattle.std.proofs.Common.{◌≡◌, sym, Ok}
+use Rattle.std.proofs.lemmas.Result.{err_from_is_err_and}
 use lib.ListN.{length}
 use Rattle.dump.specs.Call.{dump_answer}
 use Rattle.dump.proofs.call.Dumped.{engine_some, allowance_above, book_under, dump_under, by_plan, dumped}
@@ -21,19 +22,17 @@ pub returns-then-dump-lt16384-clause-answer : goal.returns-then-dump-lt16384-cla
 returns-then-dump-lt16384-clause-answer c =
     dump_under _ _ _ _ _ c.if-engine-gt0.false c.if-allowance-gt10000000.false c.if-book-lt7168.false c.if-dump-lt16384.true
 
-pub dump_blocks-requires : goal.dump_blocks-requires
-dump_blocks-requires c =
-    (sym c.check_blocks-answer.ensures ∙ c.in-Fine.is, (c.if-book-lt7168.false, c.if-dump-lt16384.false))
+pub returns-in_err-read_plan-clause-answer : goal.returns-in_err-read_plan-clause-answer
+returns-in_err-read_plan-clause-answer c =
+    let e = err_from_is_err_and c.from_residual.result c.from_residual.ensures.1 in
+    rw (e.1, e.2) (sym (by_plan _ _ _ _ _ c.if-engine-gt0.false c.if-allowance-gt10000000.false c.if-book-lt7168.false c.if-dump-lt16384.false _ c.in_err-read_plan.ensures))
 
-pub returns-in-Fine : goal.returns-in-Fine
-returns-in-Fine c =
-    let ran = c.dump_blocks.ensures in
+pub returns : goal.returns
+returns c =
+    let ran = c.dump_site.ensures in
+    let r = Ok c.dump_site.result in
     -- once the first four tests are passed, the plan decides
-    let answer : c.dump_blocks.result ≡ dump_answer c.args.plan.now c.args.engine c.args.allowance (length c.args.book.now) (length c.args.dump.now)
-    = ran.answer ∙ sym (by_plan _ _ _ _ _ c.if-engine-gt0.false c.if-allowance-gt10000000.false c.if-book-lt7168.false c.if-dump-lt16384.false _ (sym c.check_blocks-answer.ensures ∙ c.in-Fine.is)) in
-    let p = dumped _ _ _ c.dump_blocks.result _ _ _ _ answer ran.book ran.back ran.dump in
-    record { answer = answer; book = ran.book; dump = ran.dump; unbroken = p.0; fits = p.1.0; determines = p.1.1.0; blocks = p.1.1.1.0; continues = p.1.1.1.1.0; sessions = p.1.1.1.1.1.0; back = p.1.1.1.1.1.1.0; units = p.1.1.1.1.1.1.1.0; free = p.1.1.1.1.1.1.1.1.0; settled = p.1.1.1.1.1.1.1.1.1.0; spots = p.1.1.1.1.1.1.1.1.1.1.0; ids = p.1.1.1.1.1.1.1.1.1.1.1.0; counts = p.1.1.1.1.1.1.1.1.1.1.1.1.0; outcomes = p.1.1.1.1.1.1.1.1.1.1.1.1.1.0; closed = p.1.1.1.1.1.1.1.1.1.1.1.1.1.1.0; waits = p.1.1.1.1.1.1.1.1.1.1.1.1.1.1.1.0; handled = p.1.1.1.1.1.1.1.1.1.1.1.1.1.1.1.1.0; events = p.1.1.1.1.1.1.1.1.1.1.1.1.1.1.1.1.1.0; hot_day = p.1.1.1.1.1.1.1.1.1.1.1.1.1.1.1.1.1.1.0; rating = p.1.1.1.1.1.1.1.1.1.1.1.1.1.1.1.1.1.1.1.0; fleets = p.1.1.1.1.1.1.1.1.1.1.1.1.1.1.1.1.1.1.1.1.0; carried = p.1.1.1.1.1.1.1.1.1.1.1.1.1.1.1.1.1.1.1.1.1.0; no_fleets = p.1.1.1.1.1.1.1.1.1.1.1.1.1.1.1.1.1.1.1.1.1.1 }
-
-pub returns-in-Refused-clause-answer : goal.returns-in-Refused-clause-answer
-returns-in-Refused-clause-answer c =
-    sym (by_plan _ _ _ _ _ c.if-engine-gt0.false c.if-allowance-gt10000000.false c.if-book-lt7168.false c.if-dump-lt16384.false _ (sym c.check_blocks-answer.ensures ∙ c.in-Refused.is))
+    let answer : r ≡ dump_answer c.args.plan.now c.args.engine c.args.allowance (length c.args.book.now) (length c.args.dump.now)
+    = rw (ran.stopped.counted, by_plan _ _ _ _ _ c.if-engine-gt0.false c.if-allowance-gt10000000.false c.if-book-lt7168.false c.if-dump-lt16384.false (Ok tt) c.in_ok-read_plan.ensures.fine) in
+    let p = dumped _ _ _ r _ _ _ _ answer ran.stopped.book (rw ran.stopped.counted ran.stopped.back) ran.dump in
+    record { answer = answer; book = ran.stopped.book; dump = ran.dump; unbroken = p.unbroken; fits = p.fits; determines = p.determines; blocks = p.blocks; continues = p.continues; sessions = p.sessions; back = p.run.back; units = p.run.units; free = p.run.free; settled = p.run.settled; spots = p.run.spots; ids = p.run.ids; counts = p.run.counts; outcomes = p.run.outcomes; closed = p.run.closed; waits = p.run.waits; handled = p.run.handled; events = p.run.events; hot_day = p.run.hot_day; rating = p.run.rating; fleets = p.run.fleets; carried = p.run.carried; no_fleets = p.run.no_fleets }

@@ -1,7 +1,7 @@
 -- `dump::event_blocks::put_event` meets its contract. Assumes nothing.
-use native.Mathlib.Omega.{arith}
+use Rattle.std.proofs.Common.{arith}
 use Rattle.plan.specs.Bytes.{fields, bytes}
-use Rattle.dump.specs.Code.Laid.{row_bytes}
+use Rattle.dump.specs.EventBlocks.{event_bytes}
 use Rattle.dump.proofs.event_blocks.put_event.Goals as goal
 
 pub put_fields-requires : goal.put_fields-requires
@@ -9,5 +9,5 @@ unfolding fields bytes
 put_fields-requires c = omega arith
 
 pub returns : goal.returns
-unfolding row_bytes
-returns c = cc
+unfolding event_bytes
+returns c = rw (← c.block_by-block.ensures, ← c.kind_number.ensures) c.put_fields.ensures

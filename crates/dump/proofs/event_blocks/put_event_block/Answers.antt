@@ -1,7 +1,7 @@
 -- `dump::event_blocks::put_event_block` meets its contract. Assumes nothing.
-use native.Mathlib.Omega.{arith}
+use Rattle.std.proofs.Common.{arith}
 use Rattle.dump.proofs.event_blocks.Laws.{put_block}
 use Rattle.dump.proofs.event_blocks.put_event_block.Goals as goal
 
 pub returns : goal.returns
-returns c = put_block _ _ _ _ _ _ _ _ (omega (arith, c.requires)) c.put_events.ensures c.put.ensures c.seal.ensures
+returns c = put_block _ _ _ _ _ _ _ _ _ (omega (arith, c.requires.room)) c.put_events.ensures c.put.ensures c.seal.ensures

@@ -1,19 +1,25 @@
--- `dump::event_blocks::put_event_blocks` meets its contract. Assumes nothing.
-use mathlib.Core.Path.{◌≡◌, ap, ◌∙◌}
-use mathlib.Core.List.{List}
-use Prim.Native.Nat.{ℕ, ◌-◌}
-use native.Mathlib.Omega.{arith}
-use lib.ListN.{length, length-take, length-drop}
-use lib.Seq.{sets}
-use Rattle.charger.proofs.waiting_queue.Part.{length_mapped}
-use Rattle.engine.specs.Code.Simulation.{pending}
-use Rattle.dump.proofs.event_blocks.Laws.{blocks_laid}
-use borrow.Author.Rules.{rules}
+use Rattle.std.proofs.Common.{◌≡◌, ◌-◌, length, reverse, arith}
+use Rattle.std.proofs.lemmas.List.{length-reverse}
+use Rattle.plan.specs.Bytes.{pieces}
+use Rattle.plan.proofs.bytes.Laws.{pieces_step}
+use Rattle.dump.specs.EventBlocks.{event_block, event_blocks, blocks_of_events}
+use Rattle.dump.proofs.event_blocks.Laws.{length_event_block}
 use Rattle.dump.proofs.event_blocks.put_event_blocks.Goals as goal
 
+pub loop-j-preserved : goal.loop-j-preserved
+unfolding event_block
+loop-j-preserved c =
+    let plan = c.args.plan.now in
+    let es = reverse c.args.events.now in
+    record {
+      long = omega arith;
+      left =
+          rw c.put_event_block.ensures
+          (pieces_step (event_block c.args.place plan es) 512 (length_event_block plan es c.args.place) c.loop-j.s _ c.args.at c.loop-j.j (blocks_of_events (length c.args.events.now)) c.loop-j.j (omega arith) c.loop-j.invariant.left);
+    }
+
 pub returns : goal.returns
+unfolding pieces event_blocks
 returns c =
-    let long : length c.args.events.all ≡ 192 = search (rules, length_mapped) in
-    let many : length (pending c.args.events) ≡ c.args.events.tail - c.args.events.head = simp (length-drop, length-take) (omega (arith, c.requires.1.1.1)) in
-    let blocks = blocks_laid c.args.plan.now (pending c.args.events) c.args.place c.event_rows-rows.result c.event_rows-rows.ensures in
-    c.put_row_blocks.ensures ∙ ap (λ (f : List ℕ). sets c.args.s.now c.args.at f) (rw many at blocks)
+    let e : blocks_of_events (length c.args.events.now) - c.loop-j.j ≡ 0 = omega arith in
+    rw length-reverse (rw e at c.loop-j.invariant.left)

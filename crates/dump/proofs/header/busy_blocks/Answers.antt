@@ -1,26 +1,31 @@
-use Rattle.std.proofs.Common.{◌≡◌, ◌+◌, length, take, refl, arith}
-use borrow.Author.Rules.{rules}
-use Rattle.charger.specs.Lists.{count}
-use Rattle.engine.specs.Code.Simulation.{occupants}
-use Rattle.dump.specs.Dump.{busy_blocks, is_busy}
-use Rattle.dump.proofs.Laid.{laid_none}
-use Rattle.dump.proofs.header.Laws.{busy_next, count_next, length_busy, few_busy}
+use Rattle.std.proofs.Common.{◌∙◌, append-nil, arith}
+use Rattle.std.proofs.lemmas.List.{take_all}
+use mathlib.Core.List.{append_assoc}
+use Rattle.charger.proofs.Lists.{all_at}
+use Rattle.engine.specs.Discrete.{no_car, car}
+use Rattle.dump.specs.Code.Dumping.{NearCar}
+use Rattle.dump.proofs.header.Laws.{busy_step}
+use Rattle.dump.proofs.header.busy_blocks.Goals.{in-Some, in_default}
 use Rattle.dump.proofs.header.busy_blocks.Goals as goal
 
-pub loop-c-init : goal.loop-c-init
-loop-c-init c = (omega arith, refl, laid_none 0 64)
+pub place_of-requires-in-Some : goal.place_of-requires-in-Some
+place_of-requires-in-Some c = (c.requires.plan, rw c.in-Some.is at (all_at {P = NearCar} c.args.places.now c.loop-c.c no_car c.loop-c-test.true c.requires.near))
 
 pub loop-c-preserved : goal.loop-c-preserved
 loop-c-preserved c =
-    let long : length c.args.places ≡ 32 = search rules in
-    let more : c.with_busy-busy.result.count ≡ count is_busy (occupants (take (c.loop-c.c + 1) c.args.places)) = rw (count_next c.args.plan.now c.args.places c.loop-c.c (omega arith)) (omega (arith, c.with_busy-busy.ensures.count, c.loop-c.invariant.1)) in (
-      omega (arith, more, few_busy c.args.places (c.loop-c.c + 1)),
-      more,
-      rw (busy_next c.args.plan.now c.args.places c.loop-c.c (omega arith))
-          (c.with_busy-busy.ensures.blocks (busy_blocks c.args.plan.now 0 (occupants (take c.loop-c.c c.args.places))) (omega (arith, length_busy c.args.plan.now 0 (occupants (take c.loop-c.c c.args.places)), c.loop-c.invariant.1)) c.loop-c.invariant.2),
-    )
+    let step = busy_step c.args.plan.now c.args.places.now c.loop-c.c in
+    elim c.match-who.branch [
+      | in-Some w ↦ record {
+        few = rw w.blocks-is (omega (arith, w.push.ensures.len, w.push-in-Some.ensures.len, c.loop-c.invariant.few));
+        so_far =
+            step (car w.in-Some.car) _ _ c.loop-c-test.true w.in-Some.is c.loop-c.invariant.so_far
+            (rw (w.blocks-is, w.push-in-Some.ensures.items, w.push.ensures.items, w.place_of.ensures, w.place_of-in-Some.ensures, append_assoc));
+      }
+      | in_default w ↦ record {
+        few = rw w.blocks-is (omega (arith, c.loop-c.invariant.few));
+        so_far = step no_car _ _ c.loop-c-test.true w.in_default.is c.loop-c.invariant.so_far (rw (w.blocks-is, append-nil));
+      }
+    ]
 
 pub returns : goal.returns
-returns c =
-    let all : c.loop-c.c ≡ c.args.chargers = omega arith in
-    record { blocks = rw all at c.loop-c.invariant.2; count = rw all at c.loop-c.invariant.1 }
+returns c = c.loop-c.invariant.so_far ∙ rw (take_all c.loop-c.c c.args.places.now (omega (arith, c.loop-c-test.false)))

@@ -10,7 +10,7 @@ put_fields-requires c = omega arith
 
 pub returns : goal.returns
 returns c =
-    put_parts c.args.counts.queued c.args.counts.busy c.args.counts.events c.args.counts.sessions c.args.counts.used c.args.queue c.args.busy c.args.s.now _ _ _ c.requires
+    put_parts c.args.counts.queued c.args.counts.busy c.args.counts.events c.args.counts.sessions c.args.counts.used c.args.queue.now c.args.busy.now c.args.s.now _ _ _ c.requires
     c.put_fields.ensures
     c.put_tables.ensures
     c.seal.ensures

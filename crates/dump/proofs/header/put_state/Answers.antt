@@ -1,25 +1,19 @@
 -- `dump::header::put_state` meets its contract. Assumes nothing.
-use mathlib.Core.Path.{◌≡◌, sym, ap, ◌∙◌}
-use mathlib.Core.List.{List}
-use Prim.Native.Nat.{ℕ}
-use native.Mathlib.Omega.{arith}
-use lib.ListN.{length, length-take, length-drop}
-use lib.Seq.{sets, length-take-le}
-use Rattle.charger.proofs.waiting_queue.Part.{length_mapped}
+use Rattle.std.proofs.Common.{◌≡◌, ◌∙◌, ℕ, List, ◌/◌, ap, length, sym}
+use lib.Seq.{sets}
+use Rattle.std.proofs.lemmas.List.{length-reverse}
 use Rattle.engine.specs.Code.Simulation.{model}
-use Rattle.engine.proofs.site.Simulations.{length-waiting}
 use Rattle.dump.proofs.header.Laws.{state_header_lem}
-use borrow.Author.Rules.{rules}
 use Rattle.dump.proofs.header.put_state.Goals as goal
 
 pub returns : goal.returns
 returns c =
-    let event_places : length c.args.state.simulation.events.all ≡ 192 = search (rules, length_mapped) in
-    let queue_places : length c.args.state.simulation.queue.ids ≡ 64 = search (rules, length_mapped) in
-    let session_places : length c.args.state.simulation.sessions.all ≡ 64 = search (rules, length_mapped) in
+    let s = c.args.state.now.simulation in
+    let queue = c.as_slice-3.ensures.value ∙ c.queue_blocks-queue.ensures in
+    let busy = c.as_slice-4.ensures.value ∙ (c.busy_blocks-busy.ensures ∙ rw c.as_slice.ensures.value) in
+    let queued = c.len.ensures.value ∙ ap length (sym c.as_slice-3.ensures.value) in
+    let twice = c.len-2.ensures.value ∙ ap length (sym c.as_slice-4.ensures.value) in
+    let events : length c.as_slice-2.result.now ≡ length s.events.pending = rw (c.as_slice-2.ensures.items, length-reverse) in
     c.put_header.ensures
     ∙ ap (λ (b : List ℕ). sets c.args.s.now 0 b)
-    (state_header_lem c.args.plan.now (model c.args.chargers c.args.state) _ _ _ _ c.queue_blocks-waiting.result c.busy_blocks-busy.result.blocks (sym (length-waiting c.args.state.simulation.queue queue_places c.requires.1.1.0.queued)) c.busy_blocks-busy.ensures.count
-    (sym (simp (length-drop, length-take) (omega (arith, c.requires.1.1.0.events, c.requires.1.1.0.order))))
-    (sym (length-take-le c.args.state.simulation.sessions.len c.args.state.simulation.sessions.all (omega (arith, c.requires.1.1.0.sessions))))
-    c.queue_blocks-waiting.ensures c.busy_blocks-busy.ensures.blocks)
+    (state_header_lem c.args.plan.now (model c.args.state.now) _ _ _ _ _ _ _ queue busy queued (ap (λ (n : ℕ). n / 2) twice) events c.len-3.ensures.value c.handled.ensures.value)

@@ -1,53 +1,54 @@
 -- `dump::resume::resume_site` meets its contract. Assumes nothing.
-use mathlib.Core.Path.{◌≡◌, refl, sym, ap, ◌∙◌}
-use mathlib.Core.List.{List}
-use Prim.Native.Nat.{ℕ}
+use Rattle.std.proofs.Common.{◌≡◌, List, ℕ, ◌+◌, ap, sym, refl, arith, ◌∙◌, Ok}
 use Rattle.engine.specs.Plan.{Plan}
 use Rattle.engine.specs.Discrete.{State, run}
 use Rattle.engine.specs.Code.Simulation.{plan_of}
 use Rattle.engine.proofs.discrete.EventLaws.{run_handled}
-use Rattle.plan.specs.declared.answer.RunAnswer.TheVariants.{Stopped}
 use Rattle.files.specs.Read.{read_plan}
-use Rattle.files.proofs.call.RunLaws.{runnable, plan_read}
+use Rattle.files.proofs.call.RunLaws.{runnable}
+use Rattle.dump.specs.Call.{continued_to}
 use Rattle.dump.specs.Dump.{dump_of, handled_in, starts_with, is_dump}
-use Rattle.dump.proofs.call.Laws.{dumpable, dump_shown}
+use Rattle.dump.proofs.call.Laws.{dumpable, bookable, dump_shown, stopped_read}
 use Rattle.dump.proofs.dump.Runs.{no_header, reached}
 use Rattle.dump.proofs.resume.resume_site.Goals as goal
 
 pub returns-then-dump-lt512 : goal.returns-then-dump-lt512
 returns-then-dump-lt512 c = record { answer = rw (no_header _ _ c.if-dump-lt512.true); book = refl; back = tt }
 
-pub run-state-requires : goal.run-state-requires
-run-state-requires c =
-    let r = runnable c.requires.0.0 c.requires.0.1 in
-    ((r.vehicles, r.chargers), r.times)
+pub run-state-requires-clause-few : goal.run-state-requires-clause-few
+run-state-requires-clause-few c = (runnable c.requires.loaded).vehicles
+
+pub run-state-requires-clause-times : goal.run-state-requires-clause-times
+run-state-requires-clause-times c = (runnable c.requires.loaded).times
 
 pub is_dump-requires : goal.is_dump-requires
-is_dump-requires c =
-    dumpable c.requires.0.0 c.requires.0.1 c.run-state.result c.u64_at-handled.result c.run-state.ensures.same c.run-state.ensures.sound
+is_dump-requires c = dumpable c.requires.loaded c.run-state.result c.u64_at.result c.run-state.ensures.same
+
+pub go_on-requires-clause-few : goal.go_on-requires-clause-few
+go_on-requires-clause-few c = (runnable c.requires.loaded).vehicles
+
+pub go_on-requires-clause-times : goal.go_on-requires-clause-times
+go_on-requires-clause-times c = (runnable c.requires.loaded).times
 
 -- the state is the run by the events that it has handled
-pub run_further-requires : goal.run_further-requires
-run_further-requires c =
-    let p = plan_of c.args.site c.args.rows c.args.curves.now c.args.lens.now in
-    let so_far = c.run-state.ensures.same ∙ sym (run_handled p c.u64_at-handled.result) ∙ ap (run p) (ap (λ (m : State). m.handled) (sym c.run-state.ensures.same)) in
-    (c.requires.0, ((c.run-state.ensures.sound, so_far), c.requires.1))
+pub go_on-requires-clause-reached : goal.go_on-requires-clause-reached
+go_on-requires-clause-reached c =
+    let p = plan_of c.args.site.now in
+    let same = c.run-state.ensures.same in
+    same ∙ sym (run_handled p c.u64_at.result) ∙ ap (run p) (ap (λ (m : State). m.handled) (sym same))
 
-pub returns-then-is_dump : goal.returns-then-is_dump
+pub stop_events-requires : goal.stop_events-requires
+stop_events-requires c = bookable c.requires.loaded c.go_on.new.state (c.run-state.result.simulation.events.handled + c.from.result) c.go_on.ensures.same c.args.book.now c.requires.room
+
+pub returns-then-not-is_dump : goal.returns-then-not-is_dump
 unfolding is_dump
-returns-then-is_dump c =
+returns-then-not-is_dump c =
     -- what is compared is the dump at the count that the bytes name
     let compared : c.is_dump.result ≡ is_dump c.args.plan.now c.args.dump.now
     = c.is_dump.ensures
     ∙ ap (λ (f : List ℕ). starts_with f c.args.dump.now)
-    (dump_shown c.requires.0.0 c.requires.0.1 c.run-state.result c.u64_at-handled.result c.run-state.ensures.same ∙ ap (dump_of c.args.plan.now) c.u64_at-handled.ensures) in
-    -- where the dump is the plan's own, the state has handled as many events as the dump names
-    let named : c.run-state.result.simulation.events.head ≡ handled_in c.args.dump.now
-    = ap (λ (m : State). m.handled) c.run-state.ensures.same
-    ∙ ap (λ (q : Plan). (run q c.u64_at-handled.result).handled) (plan_read c.requires.0.0 c.requires.0.1)
-    ∙ ap (λ (k : ℕ). (run (read_plan c.args.plan.now) k).handled) c.u64_at-handled.ensures
-    ∙ reached c.args.plan.now c.requires.0.0 c.args.dump.now (sym compared ∙ c.if-is_dump.true) in
-    record { answer = rw (sym compared ∙ c.if-is_dump.true, ← named) (ap Stopped c.run_further.ensures.counts); book = rw (← named) c.run_further.ensures.book; back = rw (← named) c.run_further.ensures.back }
+    (dump_shown c.requires.loaded c.run-state.result c.u64_at.result c.run-state.ensures.same ∙ ap (dump_of c.args.plan.now) c.u64_at.ensures) in
+    record { answer = rw (sym compared ∙ c.if-not-is_dump.true); book = refl; back = tt }
 
 pub returns : goal.returns
 unfolding is_dump
@@ -56,5 +57,14 @@ returns c =
     let compared : c.is_dump.result ≡ is_dump c.args.plan.now c.args.dump.now
     = c.is_dump.ensures
     ∙ ap (λ (f : List ℕ). starts_with f c.args.dump.now)
-    (dump_shown c.requires.0.0 c.requires.0.1 c.run-state.result c.u64_at-handled.result c.run-state.ensures.same ∙ ap (dump_of c.args.plan.now) c.u64_at-handled.ensures) in
-    record { answer = rw (sym compared ∙ c.if-is_dump.false); book = refl; back = tt }
+    (dump_shown c.requires.loaded c.run-state.result c.u64_at.result c.run-state.ensures.same ∙ ap (dump_of c.args.plan.now) c.u64_at.ensures) in
+    -- where the dump is the plan's own, the state has handled as many events as the dump names
+    let named : c.run-state.result.simulation.events.handled ≡ handled_in c.args.dump.now
+    = ap (λ (m : State). m.handled) c.run-state.ensures.same
+    ∙ ap (λ (q : Plan). (run q c.u64_at.result).handled) c.requires.loaded.read
+    ∙ ap (λ (k : ℕ). (run (read_plan c.args.plan.now) k).handled) c.u64_at.ensures
+    ∙ reached c.args.plan.now c.requires.loaded.admitted c.args.dump.now (sym compared ∙ c.if-not-is_dump.false) in
+    let n : ℕ = c.run-state.result.simulation.events.handled + c.from.result in
+    let reached_to : n ≡ continued_to c.args.dump.now c.args.further = omega (arith, named, c.from.ensures) in
+    let stopped = stopped_read c.requires.loaded n _ reached_to _ _ _ (c.stop_events.ensures n c.go_on.ensures.same) in
+    record { answer = rw (sym compared ∙ c.if-not-is_dump.false) (ap Ok stopped.counted); book = stopped.book; back = rw stopped.counted stopped.back }

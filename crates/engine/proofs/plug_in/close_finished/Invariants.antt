@@ -1,12 +1,7 @@
--- `engine::plug_in::close_finished` meets its contract.
-use Rattle.std.proofs.Common.{◌-◌, ◌≤◌}
+-- `engine::plug_in::close_finished` meets its contract. The loop's invariant: the sessions of the finished chargers so far are closed.
+use Rattle.std.proofs.Common.{◌≡◌, take}
 use Rattle.engine.specs.Timestep.{closed}
-use Rattle.power.specs.Code.Bank.{bank}
-use Rattle.engine.specs.Code.Steps.{Rewritten}
 use Rattle.engine.proofs.plug_in.close_finished.Given as goal
 
-abbrev pub invariant-loop-i : goal.invariant-loop-i
-invariant-loop-i l = (l.i ≤ l.n) × Rewritten (closed l.time (bank l.i l.floats l.bytes)) l.initial.b l.b
-
-abbrev pub decreases-loop-i : goal.decreases-loop-i
-decreases-loop-i l = l.n - l.i
+abbrev pub invariant-loop-s : goal.invariant-loop-s
+invariant-loop-s l = l.sessions ≡ closed l.time (take l.s-index l.bank) l.initial.sessions

@@ -1,4 +1,5 @@
 -- `engine::plug_in::plugged` meets its contract.
+use Rattle.std.proofs.Common.{refl}
 use lib.Ieee.{of_bits}
 use Rattle.curve.specs.F64.{ratio}
 use Rattle.engine.specs.Timestep.{plugged}
@@ -6,4 +7,4 @@ use Rattle.engine.proofs.plug_in.plugged.Goals as goal
 
 pub returns : goal.returns
 unfolding plugged ratio of_bits
-returns c = rw (c.narrow-3.ensures, c.narrow-2.ensures, c.narrow.ensures)
+returns c = refl

@@ -6,4 +6,4 @@ use Rattle.engine.proofs.plug_in.started.Goals as goal
 
 pub returns : goal.returns
 unfolding open_session ratio of_bits
-returns c = rw c.minus.ensures
+returns c = rw c.saturating_sub.ensures

@@ -1,11 +1,12 @@
 -- `files::book::put_book` meets its contract. Assumes nothing.
 use mathlib.Core.Path.{◌≡◌, sym, ◌∙◌}
 use native.Mathlib.Omega.{arith}
-use lib.ListN.{length, take}
-use lib.Seq.{length-take-le, sets, sets-eq}
+use lib.ListN.{length}
+use lib.Seq.{sets, sets-eq}
 use mathlib.Core.List.{List, ◌++◌}
 use Prim.Native.Nat.{ℕ, ◌≤◌}
 use native.Mathlib.Nat.{zero-add}
+use Rattle.charger.specs.Lists.{tick}
 use Rattle.files.specs.SessionBlocks.{session_blocks}
 use Rattle.files.specs.Book.{header_block, book_bytes, written}
 use Rattle.files.specs.declared.book_session.BookSession.{BookSession}
@@ -26,13 +27,8 @@ put-book s a r engine ended used xs k h p q =
     rw (sets_append s 0 header blocks, zero-add, header-length (length xs) engine ended used) (cc (p, q)) in
     sym joined ∙ rw zero-add at (sets-eq (header ++ blocks) s 0 (omega arith))
 
-pub put_session_blocks-requires : goal.put_session_blocks-requires
-put_session_blocks-requires c =
-    (omega (arith, c.requires), (omega arith, (omega (arith, c.requires), c.requires.1.1)))
-
 pub returns : goal.returns
 returns c =
-    let n : length (take c.args.n c.args.sessions) ≡ c.args.n = length-take-le c.args.n c.args.sessions (omega (arith, c.requires)) in
-    put-book c.args.book.now c.put_header.new.s c.put_session_blocks.new.s c.args.engine c.args.ended c.args.used (take c.args.n c.args.sessions) (omega arith) (omega arith)
-    (rw n c.put_header.ensures)
+    put-book c.args.book.now c.put_header.new.s c.put_session_blocks.new.s c.args.engine (tick c.args.ended) c.args.used c.args.sessions.now c.requires.few c.requires.room
+    c.put_header.ensures
     c.put_session_blocks.ensures

@@ -12,4 +12,5 @@ put_fields-requires c = omega arith
 
 pub returns : goal.returns
 unfolding header_block fields bytes
-returns c = put_sealed _ _ _ 0 1 _ refl (omega arith) c.put_fields.ensures c.seal.ensures
+returns c =
+    rw (← c.from.ensures, ← c.from-2.ensures) (put_sealed _ _ _ 0 1 _ refl (omega arith) c.put_fields.ensures c.seal.ensures)

@@ -1,15 +1,18 @@
 -- `files::book::write_book` meets its contract. Assumes nothing.
-use mathlib.Core.Path.{◌≡◌, ◌∙◌}
+use mathlib.Core.Path.{◌≡◌, ap, subst, ◌∙◌}
+use mathlib.Core.List.{List}
 use Prim.Native.Nat.{◌≤◌}
 use native.Mathlib.Omega.{arith}
-use lib.ListN.{length, take}
-use lib.Seq.{length-take-le}
-use borrow.Author.Rules.{rules}
-use Rattle.engine.specs.Code.Simulation.{booked}
-use Rattle.files.specs.BookSession.{book_sessions}
-use Rattle.files.specs.Code.Writing.{FitBelow}
+use lib.ListN.{length, length-map}
+use Rattle.charger.specs.Lists.{All, tick}
+use Rattle.charger.specs.Code.Vehicles.{listed}
+use Rattle.charger.proofs.Lists.{tick_le}
+use Rattle.engine.specs.Plan.{Plan}
+use Rattle.engine.specs.Code.Simulation.{connectors_of}
+use Rattle.files.specs.Read.{vehicles_of, connector_rows}
+use Rattle.files.specs.BookSession.{book_sessions, entry, Fits}
 use Rattle.files.specs.Book.{book_bytes, written}
-use Rattle.files.proofs.book_session.Laws.{fit_first}
+use Rattle.files.specs.declared.book_session.BookSession.{BookSession}
 use Rattle.files.proofs.ReadBack.{book_back}
 use Rattle.files.proofs.book.write_book.Goals as goal
 
@@ -17,11 +20,16 @@ use Rattle.files.proofs.book.write_book.Goals as goal
 pub returns : goal.returns
 unfolding book_sessions
 returns c =
-    let room : length c.entries-all.result ≡ 65 = search (rules, c.entries-all.type_inv) in
-    let xs = book_sessions c.args.plan.now (booked c.args.sessions) in
-    let few : c.args.sessions.len ≤ length c.entries-all.result = omega (arith, room, c.requires.sessions) in
-    let first : take c.args.sessions.len c.entries-all.result ≡ xs = c.entries-all.ensures.0 ∙ rw (c.requires.vehicles, c.requires.connectors) in
-    let book : c.put_book.new.book ≡ written (book_bytes c.args.engine c.args.ended c.args.used xs) c.args.book.now = c.put_book.ensures ∙ rw first in
-    let size : length xs ≤ 64 = rw (← first) (omega (arith, length-take-le c.args.sessions.len c.entries-all.result few, c.requires.sessions)) in
-    let fit : FitBelow (length xs) xs = rw (← first) (fit_first c.args.sessions.len c.entries-all.result few c.entries-all.ensures.1.1) in
-    record { book = book; back = rw book (book_back c.args.engine c.args.ended c.args.used xs c.args.book.now size (omega (arith, c.ranges)) (omega (arith, c.ranges)) (omega (arith, c.ranges)) fit) }
+    let plan = c.args.plan.now in
+    let xs = book_sessions plan c.args.sessions.now in
+    let vehicles : listed c.args.site.now.vehicles ≡ vehicles_of plan = ap (λ (p : Plan). p.vehicles) c.requires.read in
+    let rows : (connectors_of c.args.site.now) ≡ connector_rows plan = ap (λ (p : Plan). p.connectors) c.requires.read in
+    let said : c.as_slice.result.now ≡ xs = c.as_slice.ensures.value ∙ (c.entries-all.ensures.entries ∙ rw (vehicles, rows)) in
+    let book =
+    subst (λ (ys : List BookSession). c.put_book.new.book ≡ written (book_bytes c.args.engine (tick c.args.ended) c.args.used ys) c.args.book.now) said c.put_book.ensures in
+    let few : length xs ≤ 64 = rw (length-map c.args.sessions.now (entry plan (vehicles_of plan) (connector_rows plan))) c.requires.sessions in
+    let fit : All Fits xs = rw (← said, c.as_slice.ensures.value) c.entries-all.ensures.fit in
+    record {
+      book = book;
+      back = rw book (book_back c.args.engine (tick c.args.ended) c.args.used xs c.args.book.now few (omega (arith, c.ranges)) (omega (arith, tick_le c.args.ended)) (omega (arith, c.ranges)) fit);
+    }

@@ -1,57 +1,52 @@
-use mathlib.Core.Path.{◌≡◌, refl}
-use native.Mathlib.Omega.{arith}
-use borrow.Author.Rules.{rules}
-use lib.ListN.{length, take, length-set}
+use Rattle.std.proofs.Common.{◌≡◌, ◌∙◌, ℕ, ◌+◌, ◌<◌, map, List, [], ◌∷◌, ◌++◌, length, get_or, take, arith}
+use Rattle.std.proofs.lemmas.List.{map-append, take_all}
+use Rattle.charger.specs.Lists.{none, also}
 use Rattle.charger.specs.Code.Vehicles.{listed}
-use Rattle.charger.proofs.waiting_queue.Part.{length_mapped, map-step}
-use Rattle.plan.specs.Places.{charger_count}
+use Rattle.charger.proofs.Lists.{all_append}
+use Rattle.charger.proofs.waiting_queue.Part.{take_more}
+use Rattle.engine.specs.Code.Simulation.{connectors_of}
 use Rattle.files.specs.BookSession.{entry, Fits}
-use Rattle.files.proofs.book_session.Laws.{empty_start, empty-set, fit_set}
 use Rattle.files.proofs.book_session.entries.Goals as goal
 
-pub loop-i-init : goal.loop-i-init
-loop-i-init c = (omega arith, (refl, (refl, (empty_start 65 _ c.no_session-none.ensures, λ k l. absurd (omega arith)))))
+-- one entry more
+map_more : {A B : Type 0} (g : A → B) (l : List A) (a r : List B) (i : ℕ) (d : A) (x : B) → i < length l
+    → a ≡ map g (take i l) → x ≡ g (get_or l i d) → r ≡ a ++ (x ∷ []) → r ≡ map g (take (i + 1) l)
+map_more g l a r i d x h p e q = q ∙ rw (p, e, take_more l i d h, map-append)
 
-pub offset_bounds-xs-i : goal.offset_bounds-xs-i
-offset_bounds-xs-i c = omega arith
+pub loop-x-init : goal.loop-x-init
+loop-x-init c = record { many = rw c.new-all.ensures; so_far = c.new-all.ensures; fit = rw c.new-all.ensures none }
 
-pub offset_bounds-all-i : goal.offset_bounds-all-i
-offset_bounds-all-i c = omega arith
-
-pub bounds-all-i : goal.bounds-all-i
-bounds-all-i c = omega arith
-
-pub overflow_add-i : goal.overflow_add-i
-overflow_add-i c = omega arith
-
-pub loop-i-smaller : goal.loop-i-smaller
-loop-i-smaller c = omega arith
-
-pub loop-i-preserved : goal.loop-i-preserved
-loop-i-preserved c =
-    let size : length c.args.sessions.all ≡ 64 = search (rules, length_mapped) in
+pub loop-x-preserved : goal.loop-x-preserved
+loop-x-preserved c =
     -- an entry's fields fit their widths, since they are numbers of the machine
     let fits : Fits c.entry.result = record {
-      vehicle = omega (arith, c.entry.type_inv.1.1.0);
-      profile = omega (arith, c.entry.type_inv.1.1.1.0);
-      charger = omega (arith, c.entry.type_inv.1.1.1.1.0);
-      connector = omega (arith, c.entry.type_inv.1.1.1.1.1.0);
-      outcome = omega (arith, c.entry.type_inv.1.1.1.1.1.1.0);
-      fleet = omega (arith, c.entry.type_inv.1.1.1.1.1.1.1.0);
-      arrival = omega (arith, c.entry.type_inv.1.1.1.1.1.1.1.1.0);
-      plugin = omega (arith, c.entry.type_inv.1.1.1.1.1.1.1.1.1.0);
-      unplug = omega (arith, c.entry.type_inv.1.1.1.1.1.1.1.1.1.1.0);
-      wait = omega (arith, c.entry.type_inv.1.1.1.1.1.1.1.1.1.1.1.0);
-      duration = omega (arith, c.entry.type_inv.1.1.1.1.1.1.1.1.1.1.1.1.0);
-      idle = omega (arith, c.entry.type_inv.1.1.1.1.1.1.1.1.1.1.1.1.1.0);
-      peak = omega (arith, c.entry.type_inv.1.1.1.1.1.1.1.1.1.1.1.1.1.1.0);
-      energy = omega (arith, c.entry.type_inv.1.1.1.1.1.1.1.1.1.1.1.1.1.1.1.0);
-      start = omega (arith, c.entry.type_inv.1.1.1.1.1.1.1.1.1.1.1.1.1.1.1.1.0);
-      end = omega (arith, c.entry.type_inv.1.1.1.1.1.1.1.1.1.1.1.1.1.1.1.1.1.0);
+      vehicle = omega (arith, c.entry.type_inv);
+      profile = omega (arith, c.entry.type_inv);
+      charger = omega (arith, c.entry.type_inv);
+      connector = omega (arith, c.entry.type_inv);
+      outcome = omega (arith, c.entry.type_inv);
+      fleet = omega (arith, c.entry.type_inv);
+      arrival = omega (arith, c.entry.type_inv);
+      plugin = omega (arith, c.entry.type_inv);
+      unplug = omega (arith, c.entry.type_inv);
+      wait = omega (arith, c.entry.type_inv);
+      duration = omega (arith, c.entry.type_inv);
+      idle = omega (arith, c.entry.type_inv);
+      peak = omega (arith, c.entry.type_inv);
+      energy = omega (arith, c.entry.type_inv);
+      start = omega (arith, c.entry.type_inv);
+      end = omega (arith, c.entry.type_inv);
     } in
-    (omega arith, (simp length-set c.loop-i.invariant.1.0, (map-step (entry c.args.plan.now (listed c.args.vehicles) (take (charger_count c.args.plan.now) c.args.rows)) c.args.sessions.all c.loop-i.all c.loop-i.i _ _ (omega arith) (omega arith) c.loop-i.invariant.1.1.0 c.entry.ensures, (empty-set c.loop-i.i c.loop-i.all _ c.loop-i.invariant.1.1.1.0, fit_set c.loop-i.i c.loop-i.all _ (omega arith) c.loop-i.invariant.1.1.1.1 fits))))
+    record {
+      many = omega (arith, c.push.ensures.len, c.loop-x.invariant.many);
+      so_far =
+          map_more (entry c.args.plan.now (listed c.args.site.now.vehicles) (connectors_of c.args.site.now)) c.args.sessions.now c.loop-x.all.items _ c.loop-x.x-index _ _
+          c.loop-x-test.true
+          c.loop-x.invariant.so_far
+          c.entry.ensures
+          c.push.ensures.items;
+      fit = rw c.push.ensures.items (all_append c.loop-x.invariant.fit (also fits none));
+    }
 
-pub returns : goal.returns
-returns c =
-    let e : c.loop-i.i ≡ c.args.sessions.len = omega arith in
-    rw e at c.loop-i.invariant.1.1
+pub returns-clause-entries : goal.returns-clause-entries
+returns-clause-entries c = c.loop-x.invariant.so_far ∙ rw (take_all c.loop-x.x-index c.args.sessions.now (omega arith))

@@ -5,4 +5,4 @@ use Rattle.files.proofs.call.check.Goals as goal
 
 pub returns : goal.returns
 returns c =
-    record { answer = c.check_plan.ensures; blocks = all_sealed c.args.plan.now (λ k. (c.shared_slice_known-1.given k).fits) c.check_plan.result c.check_plan.ensures; hot_day = hot_day_if_fine c.args.plan.now c.check_plan.result c.check_plan.ensures }
+    record { answer = c.check_plan.ensures; blocks = all_sealed c.args.plan.now (λ k. (c.type_inv.plan k).fits) c.check_plan.result c.check_plan.ensures; hot_day = hot_day_if_fine c.args.plan.now c.check_plan.result c.check_plan.ensures }

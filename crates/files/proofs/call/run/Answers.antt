@@ -1,6 +1,6 @@
 -- `files::call::run` meets its contract. Assumes nothing.
-use mathlib.Core.Path.{◌≡◌, sym, ◌∙◌}
-use lib.ListN.{length}
+use Rattle.std.proofs.Common.{◌≡◌, sym, length, Ok}
+use Rattle.std.proofs.lemmas.Result.{err_from_is_err_and}
 use Rattle.files.specs.Call.{answer_of}
 use Rattle.files.proofs.call.Demanded.{known_run, promised}
 use Rattle.files.proofs.call.RunLaws.{engine_above, allowance_above, book_under, by_plan}
@@ -15,19 +15,16 @@ returns-then-allowance-gt10000000-clause-answer c = allowance_above _ _ _ _ c.if
 pub returns-then-book-lt7168-clause-answer : goal.returns-then-book-lt7168-clause-answer
 returns-then-book-lt7168-clause-answer c = book_under _ _ _ _ c.if-engine-gt1.false c.if-allowance-gt10000000.false c.if-book-lt7168.true
 
-pub run_blocks-requires : goal.run_blocks-requires
-run_blocks-requires c =
-    (sym c.check_blocks-answer.ensures ∙ c.in-Fine.is, (c.if-engine-gt1.false, c.if-allowance-gt10000000.false, c.if-book-lt7168.false))
+pub returns-in_err-read_plan-clause-answer : goal.returns-in_err-read_plan-clause-answer
+returns-in_err-read_plan-clause-answer c =
+    let e = err_from_is_err_and c.from_residual.result c.from_residual.ensures.1 in
+    rw (e.1, e.2) (sym (by_plan _ _ _ _ c.if-engine-gt1.false c.if-allowance-gt10000000.false c.if-book-lt7168.false _ c.in_err-read_plan.ensures))
 
-pub returns-in-Fine : goal.returns-in-Fine
-returns-in-Fine c =
-    let r = c.run_blocks.result in
-    let blocks = c.run_blocks.ensures in
+pub returns : goal.returns
+returns c =
+    let done = c.run_site.ensures in
+    let r = Ok c.run_site.result in
     let answer : r ≡ answer_of c.args.plan.now c.args.engine c.args.allowance (length c.args.book.now)
-    = blocks.answer ∙ sym (by_plan _ _ _ _ c.if-engine-gt1.false c.if-allowance-gt10000000.false c.if-book-lt7168.false _ (sym c.check_blocks-answer.ensures ∙ c.in-Fine.is)) in
-    let p = promised _ _ _ r (known_run _ _ _ _ r answer) _ _ blocks.book blocks.back in
-    record { answer = answer; book = blocks.book; back = p.0; units = p.1.0; free = p.1.1.0; settled = p.1.1.1.0; spots = p.1.1.1.1.0; ids = p.1.1.1.1.1.0; counts = p.1.1.1.1.1.1.0; outcomes = p.1.1.1.1.1.1.1.0; closed = p.1.1.1.1.1.1.1.1.0; waits = p.1.1.1.1.1.1.1.1.1.0; handled = p.1.1.1.1.1.1.1.1.1.1.0; events = p.1.1.1.1.1.1.1.1.1.1.1.0; steps = p.1.1.1.1.1.1.1.1.1.1.1.1.0; hot_day = p.1.1.1.1.1.1.1.1.1.1.1.1.1.0; rating = p.1.1.1.1.1.1.1.1.1.1.1.1.1.1.0; fleets = p.1.1.1.1.1.1.1.1.1.1.1.1.1.1.1.0; carried = p.1.1.1.1.1.1.1.1.1.1.1.1.1.1.1.1.0; no_fleets = p.1.1.1.1.1.1.1.1.1.1.1.1.1.1.1.1.1 }
-
-pub returns-in-Refused-clause-answer : goal.returns-in-Refused-clause-answer
-returns-in-Refused-clause-answer c =
-    sym (by_plan _ _ _ _ c.if-engine-gt1.false c.if-allowance-gt10000000.false c.if-book-lt7168.false _ (sym c.check_blocks-answer.ensures ∙ c.in-Refused.is))
+    = rw (done.counted, by_plan _ _ _ _ c.if-engine-gt1.false c.if-allowance-gt10000000.false c.if-book-lt7168.false (Ok tt) c.in_ok-read_plan.ensures.fine) in
+    let p = promised _ _ _ r (known_run _ _ _ _ r answer) _ _ done.book (rw done.counted done.back) in
+    record { answer = answer; book = done.book; back = p.back; units = p.units; free = p.free; settled = p.settled; spots = p.spots; ids = p.ids; counts = p.counts; outcomes = p.outcomes; closed = p.closed; waits = p.waits; handled = p.handled; events = p.events; steps = p.steps; hot_day = p.hot_day; rating = p.rating; fleets = p.fleets; carried = p.carried; no_fleets = p.no_fleets }

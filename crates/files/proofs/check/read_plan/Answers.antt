@@ -1,12 +1,25 @@
 -- `files::check::read_plan` meets its contract. Assumes nothing.
-use mathlib.Core.Path.{◌∙◌, ap}
+use Rattle.std.proofs.Common.{sym, ◌∙◌, ap}
+use Rattle.std.proofs.lemmas.Result.{err_from_is_err_and}
+use Rattle.files.specs.Check.{pair_answer, check_plan}
+use Rattle.files.proofs.check.PairLaws.{reads}
 use Rattle.files.specs.Pairs.{failing_pair}
-use Rattle.files.proofs.check.PairLaws.{site_read}
+use Rattle.files.proofs.read.Accepted.{counted}
 use Rattle.files.proofs.check.read_plan.Goals as goal
 
-pub pair_answer-answer-requires : goal.pair_answer-answer-requires
-pair_answer-answer-requires c = (c.requires.1.1, c.failing_pair-pair.ensures ∙ ap failing_pair (site_read _ _ _ _ _ c.read_site-site.ensures c.read_connectors-connectors.ensures c.read_curves.ensures))
+pub returns-in_err-check_blocks : goal.returns-in_err-check_blocks
+unfolding check_plan
+returns-in_err-check_blocks c =
+    let e = err_from_is_err_and c.from_residual.result c.from_residual.ensures.1 in
+    rw e.1 (rw (← c.check_blocks.ensures, c.in_err-check_blocks.was, e.2))
+
+pub read_site-requires : goal.read_site-requires
+read_site-requires c = counted _ (sym c.check_blocks.ensures ∙ c.in_ok-check_blocks.was)
+
+pub pair_answer-requires : goal.pair_answer-requires
+pair_answer-requires c =
+    (counted _ (sym c.check_blocks.ensures ∙ c.in_ok-check_blocks.was), c.failing_pair.ensures ∙ ap failing_pair c.read_site.ensures)
 
 pub returns : goal.returns
 returns c =
-    record { loaded = record { counted = c.requires.1.1; site_read = c.read_site-site.ensures; rows_read = c.read_connectors-connectors.ensures; curves_read = c.read_curves.ensures }; pairs = c.pair_answer-answer.ensures ∙ rw (c.failing_pair-pair.ensures ∙ ap failing_pair (site_read _ _ _ _ _ c.read_site-site.ensures c.read_connectors-connectors.ensures c.read_curves.ensures)) }
+    reads _ _ _ (sym c.check_blocks.ensures ∙ c.in_ok-check_blocks.was) c.read_site.ensures (c.pair_answer.ensures ∙ ap (pair_answer c.args.plan.now) (c.failing_pair.ensures ∙ ap failing_pair c.read_site.ensures))

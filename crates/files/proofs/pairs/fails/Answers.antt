@@ -1,13 +1,16 @@
 -- `files::pairs::fails` meets its contract. Assumes nothing.
-use borrow.Author.Tests.{not-true, not-false}
+use Rattle.std.proofs.Common.{◌≡◌, true, sym, ◌∙◌}
 use lib.Ieee.{of_bits}
 use Rattle.curve.specs.F64.{ratio}
+use Rattle.charger.specs.Vehicle.{compatible}
+use Rattle.engine.specs.Code.Simulation.{plan_of}
+use Rattle.engine.specs.Plan.{row_at, output, rated, vehicle}
 use Rattle.files.proofs.pairs.fails.Goals as goal
 
-pub returns-then-not-fits : goal.returns-then-not-fits
-returns-then-not-fits c = rw (← c.fits.ensures, not-true c.fits.result c.if-not-fits.true-raw)
-
 pub returns : goal.returns
-unfolding of_bits ratio
+unfolding of_bits ratio output rated
 returns c =
-    rw (← c.fits.ensures, not-false c.fits.result c.if-not-fits.false-raw, ← c.rated_power-rated.ensures.power, ← c.integrate_over-output.ensures)
+    let p = plan_of c.args.site.now in
+    let fit : compatible (row_at p.connectors c.args.c) (vehicle p c.args.v) ≡ true =
+    rw (← c.row.ensures, ← c.get_vehicle.ensures) (sym c.fits.ensures ∙ c.if-not-fits.false) in
+    rw (fit, c.output-duration.ensures)

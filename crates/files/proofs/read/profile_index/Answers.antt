@@ -1,12 +1,21 @@
 -- `files::read::profile_index` meets its contract. Assumes nothing.
-use native.Mathlib.Omega.{arith}
+use Rattle.std.proofs.Common.{◌≡◌, ◌∙◌, arith}
+use Rattle.plan.specs.Plan.{with_id}
 use Rattle.files.specs.Read.{profile_index}
-use Rattle.files.proofs.read.Laws.{with_id_from}
+use Rattle.plan.proofs.ids.Laws.{with_id_from, with_id_to, found_or_end}
 use Rattle.files.proofs.read.profile_index.Goals as goal
 
 pub overflow_sub-result : goal.overflow_sub-result
-overflow_sub-result c = omega (arith, with_id_from c.args.plan.now 1 c.start_of.result c.args.id)
+overflow_sub-result c =
+    let end = c.start_of-end.result in
+    let found : c.unwrap_or.result ≡ with_id c.args.plan.now 1 end c.args.id =
+    c.unwrap_or.ensures ∙ rw c.with_id.ensures (found_or_end _ end (with_id_to c.args.plan.now 1 end c.args.id (omega arith))) in
+    omega (arith, with_id_from c.args.plan.now 1 end c.args.id)
 
 pub returns : goal.returns
 unfolding profile_index
-returns c = rw (c.with_id.ensures, c.start_of.ensures.0)
+returns c =
+    let end = c.start_of-end.result in
+    let found : c.unwrap_or.result ≡ with_id c.args.plan.now 1 end c.args.id =
+    c.unwrap_or.ensures ∙ rw c.with_id.ensures (found_or_end _ end (with_id_to c.args.plan.now 1 end c.args.id (omega arith))) in
+    rw (found, c.start_of-end.ensures.0)

@@ -8,7 +8,7 @@ use Rattle.files.proofs.read.read_curve.Goals as goal
 pub returns-then-k-profile_count : goal.returns-then-k-profile_count
 unfolding curve_of_profile points_of
 returns-then-k-profile_count c =
-    (c.new.ensures.made ∙ rw (c.store_points.ensures, ← c.profile_count.ensures.0, lt-ltb _ _ c.if-k-profile_count.true, ← c.block_of-b.ensures.0, ← c.point_count-n.ensures.0), omega arith)
+    (c.new.ensures.made ∙ rw (c.store_points.ensures, ← c.profile_count.ensures.0, lt-ltb _ _ c.if-k-profile_count.true, ← c.block_of-b.ensures, ← c.point_count-n.ensures.0), omega arith)
 
 pub returns : goal.returns
 unfolding curve_of_profile

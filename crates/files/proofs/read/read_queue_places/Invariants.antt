@@ -1,12 +1,7 @@
 -- `files::read::read_queue_places` meets its contract. Assumes nothing.
-use mathlib.Core.Path.{◌≡◌}
-use Prim.Native.Nat.{◌+◌, ◌-◌, ◌≤◌}
-use lib.ListN.{length, get_or, take}
+use Rattle.std.proofs.Common.{◌≡◌, ◌+◌, length, get_or, take}
 use Rattle.plan.specs.Search.{each}
 use Rattle.files.proofs.read.read_queue_places.Given as goal
 
 abbrev pub invariant-loop-k : goal.invariant-loop-k
-invariant-loop-k l = (l.k ≤ 64) × ((length l.places ≡ 64) × (take l.k l.places ≡ each (λ j. get_or l.plan (24 + j) 0) 0 l.k))
-
-abbrev pub decreases-loop-k : goal.decreases-loop-k
-decreases-loop-k l = 64 - l.k
+invariant-loop-k l = (length l.places ≡ 64) × (take l.k l.places ≡ each (λ j. get_or l.plan (24 + j) 0) 0 l.k)

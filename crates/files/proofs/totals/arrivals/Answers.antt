@@ -1,43 +1,34 @@
-use mathlib.Core.Path.{◌≡◌, refl}
-use mathlib.Core.Bool.{Bool, true, false, ◌&&◌}
-use borrow.Author.Rules.{rules}
-use native.Mathlib.Omega.{arith}
-use lib.ListN.{get_or}
-use Rattle.charger.specs.Lists.{tick}
-use Rattle.engine.specs.declared.events.Event.{Event}
-use Rattle.charger.proofs.waiting_queue.Part.{length_mapped, count_on, count_end}
-use Rattle.engine.specs.Events.{arrival}
-use Rattle.engine.specs.Demand.{is_arrival, arrives, anyone}
-use Rattle.charger.proofs.Lists.{tick_le}
+-- `files::totals::arrivals` meets its contract. Assumes nothing.
+use Rattle.std.proofs.Common.{◌≡◌, ◌∙◌, refl, rules, tests, eqb, Bool, true, ◌&&◌, List, [], ◌∷◌, reverse, ap, sym, arith}
+use denote.Enum.Declared.{tag_of}
+use Rattle.std.proofs.lemmas.Iterator.{YieldsList-from_slice}
+use Rattle.std.proofs.lemmas.Iterator.Consumers.{count_from_yields_List, YieldsList-from_filter}
+use Rattle.std.proofs.lemmas.List.Sums.{length-filter}
+use Rattle.std.proofs.lemmas.List.{reverse-append}
+use Rattle.charger.specs.Lists.{count}
+use Rattle.charger.proofs.Lists.{count_by_is, count-append}
+use Rattle.engine.specs.Demand.{arrives, anyone, is_arrival}
+use Rattle.engine.specs.declared.events.EventType.{EventType}
+use Rattle.engine.specs.declared.events.EventType.TheVariants.{Arrival, Renege, Unplug}
+use Rattle.engine.specs.contracts.events.EventType.{the_type}
 use Rattle.files.proofs.totals.arrivals.Goals as goal
 
 -- an arrival is one of anyone
-any-arrival : (e : Event) → tick (arrives anyone e) ≡ tick (is_arrival e.kind)
-any-arrival e = go (is_arrival e.kind)
-  where
-    go : (b : Bool) → tick (b && true) ≡ tick b
-    go true = refl
-    go false = refl
+arrival_is : (k : EventType) → eqb (tag_of the_type k) 0 ≡ (is_arrival k && true)
+arrival_is Arrival = refl
+arrival_is Renege = refl
+arrival_is Unplug = refl
 
-pub loop-i-init : goal.loop-i-init
-loop-i-init c = (search (rules, length_mapped), search rules, search rules, omega arith, omega arith)
-
-pub overflow_add-count : goal.overflow_add-count
-overflow_add-count c =
-    let e = get_or c.args.events.all c.loop-i.i (arrival 0 0) in
-    omega (arith, c.arrival_tick-count.ensures, tick_le (is_arrival e.kind))
-
-pub loop-i-preserved : goal.loop-i-preserved
-loop-i-preserved c =
-    let e = get_or c.args.events.all c.loop-i.i (arrival 0 0) in
-    let on = count_on (arrives anyone) c.args.events.all c.loop-i.i c.args.events.tail (arrival 0 0) (omega arith) (omega arith) in (
-      c.loop-i.invariant.0,
-      omega arith,
-      c.loop-i.invariant.2,
-      omega (arith, c.arrival_tick-count.ensures, tick_le (is_arrival e.kind)),
-      omega (arith, c.arrival_tick-count.ensures, on, any-arrival e),
-    )
+-- the order does not count
+count-reverse : {A : Type 0} (test : A → Bool) (l : List A) → count test (reverse l) ≡ count test l
+count-reverse test [] = refl
+count-reverse test (x ∷ l) =
+    ap (count test) (reverse-append (x ∷ []) l) ∙ omega (arith, count-append test (reverse l) (x ∷ []), count-reverse test l)
 
 pub returns : goal.returns
 returns c =
-    omega (arith, count_end (arrives anyone) c.args.events.all c.loop-i.i c.args.events.tail (arrival 0 0) (omega arith))
+    let test = arrives anyone in
+    let xs = c.as_slice.result.now in
+    count_from_yields_List c.filter.result _ c.count.ensures.ran
+    (YieldsList-from_filter _ test (YieldsList-from_slice xs cc) c.filter.ensures.closure (λ x r q k. (search (rules, tests), rw (← arrival_is x.now.kind) (search (rules, tests)))))
+    ∙ (length-filter test xs ∙ (count_by_is test xs ∙ rw c.as_slice.ensures.items (sym (count-reverse test xs))))

@@ -1,10 +1,13 @@
 -- `plan::blocks::block` meets its contract. Assumes nothing.
-use Rattle.std.proofs.Common.{◌≡◌, ◌+◌, ◌-◌, ◌*◌, drop, refl, arith, length-drop, length-take-le}
+use Rattle.std.proofs.Common.{◌*◌, ◌-◌, ◌∙◌, length, drop, ap, take, arith, length-drop, take_all}
+use Rattle.std.proofs.lemmas.Option.{MatchOption-at_some}
 use Rattle.plan.specs.Blocks.{block}
 use Rattle.plan.proofs.blocks.block.Goals as goal
 
 pub returns : goal.returns
 unfolding block
 returns c =
-    let e : 512 * c.args.k + 512 - 512 * c.args.k ≡ 512 = omega arith in
-    rw e (refl, length-take-le 512 (drop (512 * c.args.k) c.args.file.now) (omega (arith, length-drop (512 * c.args.k) c.args.file.now)))
+    let f = c.args.file.now in
+    let at = 512 * c.args.k in
+    (MatchOption-at_some _ _ _ c.unwrap.ensures c.first_chunk.ensures.cases).same
+    ∙ ap (take 512) (take_all (length f - at) (drop at f) (omega (arith, length-drop at f)))

@@ -1,10 +1,7 @@
 -- `plan::blocks::check_of` meets its contract. Assumes nothing.
-use Rattle.std.proofs.Common.{◌≡◌, ◌+◌, ◌-◌, ◌%◌, ◌^◌, ◌≤◌}
+use Rattle.std.proofs.Common.{◌≡◌, ◌+◌, ◌%◌, ◌^◌}
 use Rattle.plan.specs.Blocks.{words}
 use Rattle.plan.proofs.blocks.check_of.Given as goal
 
 abbrev pub invariant-loop-i : goal.invariant-loop-i
-invariant-loop-i l = (l.i ≤ 127) × (l.sum ≡ (l.place + words l.i l.b) % 2 ^ 32)
-
-abbrev pub decreases-loop-i : goal.decreases-loop-i
-decreases-loop-i l = 127 - l.i
+invariant-loop-i l = l.sum ≡ (l.place + words l.i l.b) % 2 ^ 32

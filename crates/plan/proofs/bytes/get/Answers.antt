@@ -1,5 +1,5 @@
-use Rattle.std.proofs.Common.{◌≡◌, ℕ, List, get_or, ◌+◌, ◌-◌, ◌^◌, ◌<◌, ◌≤◌, ◌∙◌, add-zero, arith}
-use native.Mathlib.Nat.{sub_self, sub-zero}
+use Rattle.std.proofs.Common.{◌≡◌, ℕ, List, get_or, ◌+◌, ◌-◌, ◌^◌, ◌<◌, ◌≤◌, arith}
+use native.Mathlib.Nat.{sub_self}
 use Rattle.plan.specs.Bytes.{le_at}
 use Rattle.plan.proofs.bytes.Laws.{get_step, le_at-below}
 use Rattle.plan.proofs.bytes.get.Goals as goal
@@ -10,31 +10,15 @@ below s at n i v fits h e = rw e (le_at-below 7 _ s _ fits h)
 
 pub loop-i-init : goal.loop-i-init
 unfolding le_at
-loop-i-init c = (omega arith, rw sub_self)
-
-pub overflow_sub-i : goal.overflow_sub-i
-overflow_sub-i c = omega arith
+loop-i-init c = rw sub_self
 
 pub overflow_mul-v : goal.overflow_mul-v
-overflow_mul-v c = omega (arith, below c.args.s.now c.args.at c.args.n c.loop-i.i c.loop-i.v (λ k. (c.shared_slice_known-1.given k).fits) (omega arith) c.loop-i.invariant.1)
-
-pub overflow_add-at : goal.overflow_add-at
-overflow_add-at c = omega arith
-
-pub bounds-s-at : goal.bounds-s-at
-bounds-s-at c = omega arith
+overflow_mul-v c = omega (arith, below c.args.s.now c.args.at c.args.n c.loop-i.i c.loop-i.v (λ k. (c.type_inv.s k).fits) (omega arith) c.loop-i.invariant)
 
 pub overflow_add-v : goal.overflow_add-v
-overflow_add-v c = omega (arith, below c.args.s.now c.args.at c.args.n c.loop-i.i c.loop-i.v (λ k. (c.shared_slice_known-1.given k).fits) (omega arith) c.loop-i.invariant.1)
-
-pub loop-i-smaller : goal.loop-i-smaller
-loop-i-smaller c = omega arith
+overflow_add-v c =
+    omega (arith, below c.args.s.now c.args.at c.args.n c.loop-i.i c.loop-i.v (λ k. (c.type_inv.s k).fits) (omega arith) c.loop-i.invariant, (c.type_inv.s (c.args.at + (c.loop-i.i - 1))).fits)
 
 pub loop-i-preserved : goal.loop-i-preserved
 loop-i-preserved c =
-    (omega arith, get_step c.args.s.now c.args.at c.args.n _ _ c.loop-i.i (omega arith) (omega arith) c.loop-i.invariant.1 c.byte_value.ensures.0)
-
-pub returns : goal.returns
-returns c =
-    let e : c.loop-i.i ≡ 0 = omega arith in
-    c.loop-i.invariant.1 ∙ rw (e, sub-zero, add-zero)
+    get_step c.args.s.now c.args.at c.args.n _ _ c.loop-i.i (omega arith) (omega arith) c.loop-i.invariant c.from.ensures

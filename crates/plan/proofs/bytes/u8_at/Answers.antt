@@ -3,4 +3,4 @@ use Rattle.plan.proofs.bytes.Laws.{le_at_lt}
 use Rattle.plan.proofs.bytes.u8_at.Goals as goal
 
 pub returns : goal.returns
-returns c = (c.get.ensures, rw c.get.ensures (le_at_lt 1 _ _ (λ k. (c.shared_slice_known-1.given k).fits)))
+returns c = (c.get.ensures, rw c.get.ensures (le_at_lt 1 _ _ (λ k. (c.type_inv.s k).fits)))

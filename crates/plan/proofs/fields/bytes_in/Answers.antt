@@ -8,15 +8,6 @@ pub loop-k-init : goal.loop-k-init
 unfolding bytes_in
 loop-k-init c = refl
 
-pub bounds-b-k : goal.bounds-b-k
-bounds-b-k c = omega arith
-
-pub overflow_add-k : goal.overflow_add-k
-overflow_add-k c = omega arith
-
-pub loop-k-smaller : goal.loop-k-smaller
-loop-k-smaller c = omega arith
-
 pub loop-k-preserved : goal.loop-k-preserved
 loop-k-preserved c =
     every-joined (within c.args.b.now c.args.lo c.args.hi) c.loop-k.k c.args.to c.loop-k.ok (omega arith) c.loop-k.invariant

@@ -10,6 +10,3 @@ within b lo hi k = leb lo (get_or b k 0) && leb (get_or b k 0) hi
 
 abbrev pub invariant-loop-k : goal.invariant-loop-k
 invariant-loop-k l = (l.ok && every (within l.b l.lo l.hi) l.k (l.to - l.k)) ≡ bytes_in l.b l.from l.to l.lo l.hi
-
-abbrev pub decreases-loop-k : goal.decreases-loop-k
-decreases-loop-k l = l.to - l.k

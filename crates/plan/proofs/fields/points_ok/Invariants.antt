@@ -6,6 +6,3 @@ use Rattle.plan.proofs.fields.points_ok.Given as goal
 
 abbrev pub invariant-loop-i : goal.invariant-loop-i
 invariant-loop-i l = every (point_ok l.b) l.i (l.n - l.i) ≡ every (point_ok l.b) 0 l.n
-
-abbrev pub decreases-loop-i : goal.decreases-loop-i
-decreases-loop-i l = l.n - l.i

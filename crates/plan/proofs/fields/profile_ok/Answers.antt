@@ -5,4 +5,4 @@ use Rattle.plan.proofs.fields.profile_ok.Goals as goal
 
 pub returns : goal.returns
 unfolding of_bits ratio
-returns c = cc
+returns c = rw (c.u16_at.ensures.0, c.zeros.ensures, c.f64_in.ensures, c.points_ok.ensures, c.zeros-2.ensures, c.point_count-n.ensures.0)

@@ -10,6 +10,3 @@ has plan id j = eqb (id_at plan j) id
 
 abbrev pub invariant-loop-j : goal.invariant-loop-j
 invariant-loop-j l = first_index (has l.plan l.id) l.j (l.to - l.j) ≡ with_id l.plan l.from l.to l.id
-
-abbrev pub decreases-loop-j : goal.decreases-loop-j
-decreases-loop-j l = l.to - l.j

@@ -6,12 +6,12 @@ use Rattle.plan.proofs.plan.check_blocks.Goals as goal
 
 pub first_refusal-requires : goal.first_refusal-requires
 first_refusal-requires c =
-    omega (arith, length_limit (length c.args.plan.now) (sym c.whole_blocks.ensures ∙ c.if-whole_blocks.true))
+    omega (arith, length_limit (length c.args.plan.now) (sym c.whole_blocks.ensures ∙ c.if-not-whole_blocks.false))
 
-pub returns-then-whole_blocks : goal.returns-then-whole_blocks
+pub returns-then-not-whole_blocks : goal.returns-then-not-whole_blocks
 unfolding check_blocks
-returns-then-whole_blocks c = rw (← c.whole_blocks.ensures, c.if-whole_blocks.true) c.first_refusal.ensures
+returns-then-not-whole_blocks c = rw (← c.whole_blocks.ensures, c.if-not-whole_blocks.true)
 
 pub returns : goal.returns
 unfolding check_blocks
-returns c = rw (← c.whole_blocks.ensures, c.if-whole_blocks.false)
+returns c = rw (← c.whole_blocks.ensures, c.if-not-whole_blocks.false) c.first_refusal.ensures

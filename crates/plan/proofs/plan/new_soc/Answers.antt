@@ -5,27 +5,9 @@ use Rattle.plan.proofs.SearchLaws.{every-joined, every_known}
 use Rattle.plan.proofs.plan.new_soc.Invariants.{other}
 use Rattle.plan.proofs.plan.new_soc.Goals as goal
 
-pub offset_bounds-socs-i : goal.offset_bounds-socs-i
-offset_bounds-socs-i c = omega arith
-
-pub bounds-socs-i : goal.bounds-socs-i
-bounds-socs-i c = omega arith
-
 pub loop-j-init : goal.loop-j-init
 unfolding new_among
 loop-j-init c = rw sub-zero
-
-pub offset_bounds-socs-j : goal.offset_bounds-socs-j
-offset_bounds-socs-j c = omega arith
-
-pub bounds-socs-j : goal.bounds-socs-j
-bounds-socs-j c = omega arith
-
-pub overflow_add-j : goal.overflow_add-j
-overflow_add-j c = omega arith
-
-pub loop-j-smaller : goal.loop-j-smaller
-loop-j-smaller c = omega arith
 
 pub loop-j-preserved : goal.loop-j-preserved
 loop-j-preserved c =

@@ -11,6 +11,3 @@ other socs i j = not (eq (get_or socs j nan) (get_or socs i nan))
 
 abbrev pub invariant-loop-j : goal.invariant-loop-j
 invariant-loop-j l = (l.new && every (other l.socs l.i) l.j (l.i - l.j)) ≡ new_among l.socs l.i
-
-abbrev pub decreases-loop-j : goal.decreases-loop-j
-decreases-loop-j l = l.i - l.j

@@ -1,30 +1,14 @@
 use Rattle.std.proofs.Common.{◌≡◌, sym, ◌∙◌, arith}
-use native.Mathlib.Nat.{sub-zero}
 use Rattle.plan.specs.Plan.{new_soc}
 use Rattle.plan.proofs.SearchLaws.{every_again, every-broken, every_end}
 use Rattle.plan.proofs.plan.Laws.{new_read}
 use Rattle.plan.proofs.plan.new_socs.Goals as goal
-
-pub read_socs-requires : goal.read_socs-requires
-read_socs-requires c = omega arith
-
-pub loop-i-init : goal.loop-i-init
-loop-i-init c = rw sub-zero
-
-pub new_soc-requires : goal.new_soc-requires
-new_soc-requires c = omega arith
 
 pub returns-then-not-new_soc : goal.returns-then-not-new_soc
 returns-then-not-new_soc c =
     let tested : c.new_soc.result ≡ new_soc c.args.b.now c.loop-i.i =
     c.new_soc.ensures ∙ new_read c.args.b.now _ c.args.n c.loop-i.i c.read_socs.ensures (omega arith) in
     sym (every-broken (new_soc c.args.b.now) c.loop-i.i c.args.n (omega arith) (sym tested ∙ c.if-not-new_soc.true)) ∙ c.loop-i.invariant
-
-pub overflow_add-i : goal.overflow_add-i
-overflow_add-i c = omega arith
-
-pub loop-i-smaller : goal.loop-i-smaller
-loop-i-smaller c = omega arith
 
 pub loop-i-preserved : goal.loop-i-preserved
 loop-i-preserved c =

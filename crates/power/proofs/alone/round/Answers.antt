@@ -1,44 +1,43 @@
--- `power::alone::round` meets its contract.
 use mathlib.Core.Path.{sym, ◌∙◌}
 use lib.Ieee.{of_bits}
 use Rattle.curve.specs.F64.{ratio}
 use Rattle.power.specs.Power.{added}
 use Rattle.power.specs.Code.Alone.{cap_alone}
-use Rattle.power.proofs.alone.OneCar.{not_true, least_first, least_second, scaled_round_lem, plain_round}
+use Rattle.power.proofs.alone.OneCar.{least_first, least_second, scaled_round_lem, plain_round}
 use Rattle.power.proofs.alone.round.Goals as goal
 
 pub returns-then-not-scaling : goal.returns-then-not-scaling
 unfolding of_bits ratio
 returns-then-not-scaling c =
-    rw (c.delivered.ensures, c.with_cap.ensures, c.with_request-asked.ensures)
-    (plain_round c.args.limit c.args.power c.args.s
+    rw (c.delivered.ensures, c.set_power_cap.ensures)
+    (plain_round c.args.limit c.args.power c.args.s.now
     (sym c.is_charging.ensures ∙ c.if-is_charging.true)
-    c.args.s.rated.0
-    (least_second c.args.power.0 c.args.s.rated.0 c.if-rated-power.true)
-    (not_true _ (rw c.scaling.ensures at c.if-not-scaling.true-raw)))
+    c.args.s.now.rated.0
+    (least_second c.args.power.0 c.args.s.now.rated.0 c.if-rated-power.true)
+    (rw c.scaling.ensures at c.if-not-scaling.true))
 
 pub returns-then-cap-power : goal.returns-then-cap-power
 unfolding of_bits ratio
 returns-then-cap-power c =
-    rw (c.by_cap.ensures, c.with_request-asked.ensures, c.scaling-factor.ensures)
-    (scaled_round_lem c.args.limit c.args.power c.args.s
+    rw (c.by_cap.ensures, c.scaling-factor.ensures)
+    (scaled_round_lem c.args.limit c.args.power c.args.s.now
     (sym c.is_charging.ensures ∙ c.if-is_charging.true)
     c.args.power.0
-    (least_first c.args.power.0 c.args.s.rated.0 (sym c.within.ensures ∙ c.if-within.true))
+    (least_first c.args.power.0 c.args.s.now.rated.0 (sym c.within.ensures ∙ c.if-within.true))
     (rw c.scaling-factor.ensures at c.if-factor.true)
     (rw c.scaling-factor.ensures at c.if-cap-power.true))
 
 pub returns-else-factor : goal.returns-else-factor
 unfolding of_bits ratio
 returns-else-factor c =
-    rw (c.delivered-else-factor.ensures, c.with_cap-else-factor.ensures, c.with_request-asked.ensures)
-    (plain_round c.args.limit c.args.power c.args.s
+    rw (c.delivered-else-factor.ensures, c.set_power_cap-else-factor.ensures)
+    (plain_round c.args.limit c.args.power c.args.s.now
     (sym c.is_charging.ensures ∙ c.if-is_charging.true)
     c.args.power.0
-    (least_first c.args.power.0 c.args.s.rated.0 (sym c.within.ensures ∙ c.if-within.true))
+    (least_first c.args.power.0 c.args.s.now.rated.0 (sym c.within.ensures ∙ c.if-within.true))
     (rw c.scaling-factor.ensures at c.if-factor.false))
 
 pub returns : goal.returns
 unfolding of_bits ratio cap_alone added
 returns c =
-    rw (c.advanced.ensures, c.cap_of.ensures, c.scaling-2.ensures, c.added.ensures, c.draw.ensures, c.with_request-asked.ensures)
+    rw (c.progress.ensures, c.set_power_cap-2.ensures, c.cap_of-cap.ensures, c.scaling-2.ensures, c.added.ensures, c.draw.ensures)

@@ -1,4 +1,3 @@
--- `power::power::scaling` meets its contract.
 use lib.Ieee.{of_bits}
 use Rattle.curve.specs.F64.{ratio}
 use Rattle.power.specs.Power.{scaling}

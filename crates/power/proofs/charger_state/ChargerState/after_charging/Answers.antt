@@ -1,4 +1,3 @@
--- `power::charger_state::ChargerState::after_charging` meets its contract.
 use Rattle.power.specs.ChargerState.{after_charging}
 use Rattle.power.proofs.charger_state.ChargerState.after_charging.Goals as goal
 

@@ -1,4 +1,3 @@
--- `power::charger_state::ChargerState::after_idling` meets its contract.
 use lib.Ieee.{of_bits}
 use Rattle.curve.specs.F64.{ratio}
 use Rattle.power.specs.ChargerState.{after_idling}

@@ -1,4 +1,3 @@
--- `power::charger_state::ChargerState::delivered` meets its contract.
 use lib.Ieee.{of_bits, div}
 use Rattle.curve.specs.F64.{ratio}
 use Rattle.power.proofs.charger_state.ChargerState.delivered.Goals as goal
