@@ -1,7 +1,6 @@
 // The book: a header block and then five sessions a block, in the order pushed.
 ghost use Rattle.std.specs.Prelude.{◌≡◌, ◌≤◌, length};
 ghost use Rattle.std.proofs.lemmas.List.Edits.{sets};
-ghost use Rattle.charger.specs.Lists.{tick};
 ghost use Rattle.files.specs.Code.Writing.{Writable};
 ghost use Rattle.files.specs.BookSession.{book_sessions};
 ghost use Rattle.files.specs.Book.{header_block, book_bytes, written, ReadBack};
@@ -14,9 +13,9 @@ use plan::blocks::seal;
 use plan::bytes::put_fields;
 
 // Stores the header's block into s.
-fn put_header(s: &mut [u8], count: u64, engine: u8, ended: bool, used: u64)
+fn put_header(s: &mut [u8], count: u64, engine: u8, ended: u8, used: u64)
     requires { 512 ≤ length s.old }
-    ensures { s.new ≡ sets s.old 0 (header_block count engine (tick ended) used) }
+    ensures { s.new ≡ sets s.old 0 (header_block count engine ended used) }
 {
     let f: [u64; 18] = [
         1,
@@ -43,10 +42,10 @@ fn put_header(s: &mut [u8], count: u64, engine: u8, ended: bool, used: u64)
 }
 
 // Stores the book of some sessions; the bytes past its last block stay.
-fn put_book(book: &mut [u8], sessions: &[BookSession], engine: u8, ended: bool, used: u64)
+fn put_book(book: &mut [u8], sessions: &[BookSession], engine: u8, ended: u8, used: u64)
     requires few { length sessions.now ≤ 64 }
     requires room { 7168 ≤ length book.old }
-    ensures { book.new ≡ written (book_bytes engine (tick ended) used sessions.now) book.old }
+    ensures { book.new ≡ written (book_bytes engine ended used sessions.now) book.old }
 {
     put_header(book, sessions.len() as u64, engine, ended, used);
     put_session_blocks(book, 512, 2, sessions);
@@ -59,12 +58,12 @@ pub fn write_book(
     site: &Site,
     sessions: &[Session],
     engine: u8,
-    ended: bool,
+    ended: u8,
     used: u64,
 )
     requires { Writable plan.now site.now sessions.now book.old }
-    ensures book { book.new ≡ written (book_bytes engine (tick ended) used (book_sessions plan.now sessions.now)) book.old }
-    ensures back { ReadBack engine (tick ended) used (book_sessions plan.now sessions.now) book.new }
+    ensures book { book.new ≡ written (book_bytes engine ended used (book_sessions plan.now sessions.now)) book.old }
+    ensures back { ReadBack engine ended used (book_sessions plan.now sessions.now) book.new }
 {
     let all = entries(plan, site, sessions);
     put_book(book, all.as_slice(), engine, ended, used);

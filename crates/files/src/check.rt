@@ -1,6 +1,7 @@
 // A check of a plan: the refusals 4 to 12.
 ghost use Rattle.std.specs.Prelude.{◌≡◌};
-ghost use Rattle.files.specs.Code.Reading.{Counted, Reads};
+ghost use Rattle.engine.specs.Code.Simulation.{plan_of};
+ghost use Rattle.files.specs.Code.Reading.{Admitted, Counted, Reads};
 ghost use Rattle.files.specs.Read.{read_plan};
 ghost use Rattle.files.specs.Pairs.{failing_pair};
 ghost use Rattle.files.specs.Check.{pair_answer, check_plan};
@@ -30,7 +31,8 @@ pub fn pair_answer(plan: &[u8], pair: Option<(usize, usize)>) -> Result<(), Refu
 
 // Reads a plan into a site, if it is fine.
 pub fn read_plan(plan: &[u8], site: &mut Site) -> Result<(), Refusal>
-    ensures { Reads plan.now site.new result }
+    ensures answer { Reads plan.now site.new result }
+    ensures site { Admitted plan.now → plan_of site.new ≡ read_plan plan.now }
 {
     check_blocks(plan)?;
     read_site(site, plan);

@@ -35,7 +35,7 @@ pub fn write_run(
     ensures back { ReadBack engine (tick ended) used (book_sessions plan.now (booked simulation.now.sessions)) book.new }
 {
     let sessions = simulation.sessions.as_slice();
-    write_book(book, plan, site, sessions, engine, ended, used);
+    write_book(book, plan, site, sessions, engine, u8::from(ended), used);
     count_up(simulation, used, ended)
 }
 

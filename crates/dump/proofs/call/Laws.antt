@@ -65,7 +65,8 @@ module _ {plan : List ℕ} {site : Site} (l : Loaded plan site) (state : State) 
   dumpable =
       record {
         counted = as_counted plan l.admitted;
-        read = l.read;
+        vehicles = ap (λ (q : Plan). q.vehicles) l.read;
+        connectors = ap (λ (q : Plan). q.connectors) l.read;
         sessions = few_booked;
         events = all_map (λ e h. (omega (arith, h.0, few_vehicles), omega (arith, h.1, few_chargers))) within.pending;
         queue = all_map (λ v h. omega (arith, h, few_vehicles)) within.queue;

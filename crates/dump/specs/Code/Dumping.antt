@@ -2,13 +2,14 @@
 use Rattle.std.specs.Prelude.{ℕ, ◌≤◌, ◌<◌, ◌≡◌, List, length}
 use Rattle.charger.specs.Lists.{All}
 use Rattle.charger.specs.Code.Queue.{waiting}
+use Rattle.charger.specs.Code.Vehicles.{listed}
 use Rattle.engine.specs.declared.events.Event.{Event}
 use Rattle.engine.specs.declared.discrete.State.{State}
 use Rattle.engine.specs.declared.site.Site.{Site}
 use Rattle.engine.specs.Discrete.{Occupant, no_car, car}
-use Rattle.engine.specs.Code.Simulation.{pending, booked, plan_of}
+use Rattle.engine.specs.Code.Simulation.{pending, booked, connectors_of}
 use Rattle.files.specs.Code.Reading.{Counted}
-use Rattle.files.specs.Read.{read_plan}
+use Rattle.files.specs.Read.{vehicles_of, connector_rows}
 
 -- a place for which its block's 16-bit number can be told
 abbrev pub Near : ℕ → Type 0
@@ -24,7 +25,8 @@ NearCar (car v) = Near v
 -- the state of a run by events of a plan
 pub record Dumpable (plan : List ℕ) (site : Site) (state : State) : Type 0 where
   pub counted : Counted plan
-  pub read : plan_of site ≡ read_plan plan
+  pub vehicles : listed site.vehicles ≡ vehicles_of plan
+  pub connectors : connectors_of site ≡ connector_rows plan
   pub sessions : length (booked state.simulation.sessions) ≤ 64
   pub events : All NearEvent (pending state.simulation.events)
   pub queue : All Near (waiting state.simulation.queue)

@@ -63,7 +63,7 @@ module _ {plan : List ℕ} {site : Site} (l : Loaded plan site) where
   rising = record { rises = λ k. rw (ap (λ (p : Plan). p.curve k) l.read) (rising_at k (ltb k (profile_count plan)) refl) }
 
   pub writable : (xs : List Session) (book : List ℕ) → length xs ≤ 64 → 7168 ≤ length book → Writable plan site xs book
-  writable xs book h k = record { counted = counted plan l.admitted; read = l.read; sessions = h; room = k }
+  writable xs book h k = record { counted = counted plan l.admitted; vehicles = ap (λ (p : Plan). p.vehicles) l.read; connectors = ap (λ (p : Plan). p.connectors) l.read; sessions = h; room = k }
 
 -- ---- the answer, by the tests in their order
 

@@ -25,7 +25,7 @@ returns-then-dump-lt16384-clause-answer c =
 pub returns-in_err-read_plan-clause-answer : goal.returns-in_err-read_plan-clause-answer
 returns-in_err-read_plan-clause-answer c =
     let e = err_from_is_err_and c.from_residual.result c.from_residual.ensures.1 in
-    rw (e.1, e.2) (sym (by_plan _ _ _ _ _ c.if-engine-gt0.false c.if-allowance-gt10000000.false c.if-book-lt7168.false c.if-dump-lt16384.false _ c.in_err-read_plan.ensures))
+    rw (e.1, e.2) (sym (by_plan _ _ _ _ _ c.if-engine-gt0.false c.if-allowance-gt10000000.false c.if-book-lt7168.false c.if-dump-lt16384.false _ c.in_err-read_plan.ensures.answer))
 
 pub returns : goal.returns
 returns c =
@@ -33,6 +33,6 @@ returns c =
     let r = Ok c.dump_site.result in
     -- once the first four tests are passed, the plan decides
     let answer : r ≡ dump_answer c.args.plan.now c.args.engine c.args.allowance (length c.args.book.now) (length c.args.dump.now)
-    = rw (ran.stopped.counted, by_plan _ _ _ _ _ c.if-engine-gt0.false c.if-allowance-gt10000000.false c.if-book-lt7168.false c.if-dump-lt16384.false (Ok tt) c.in_ok-read_plan.ensures.fine) in
+    = rw (ran.stopped.counted, by_plan _ _ _ _ _ c.if-engine-gt0.false c.if-allowance-gt10000000.false c.if-book-lt7168.false c.if-dump-lt16384.false (Ok tt) c.in_ok-read_plan.ensures.answer.fine) in
     let p = dumped _ _ _ r _ _ _ _ answer ran.stopped.book (rw ran.stopped.counted ran.stopped.back) ran.dump in
     record { answer = answer; book = ran.stopped.book; dump = ran.dump; unbroken = p.unbroken; fits = p.fits; determines = p.determines; blocks = p.blocks; continues = p.continues; sessions = p.sessions; back = p.run.back; units = p.run.units; free = p.run.free; settled = p.run.settled; spots = p.run.spots; ids = p.run.ids; counts = p.run.counts; outcomes = p.run.outcomes; closed = p.run.closed; waits = p.run.waits; handled = p.run.handled; events = p.run.events; hot_day = p.run.hot_day; rating = p.run.rating; fleets = p.run.fleets; carried = p.run.carried; no_fleets = p.run.no_fleets }

@@ -3,7 +3,6 @@ use Rattle.std.proofs.Common.{◌≡◌, ◌∙◌, ◌+◌, ◌*◌, ◌/◌, �
 use lib.ListN.{length-map}
 use Rattle.std.proofs.lemmas.List.{length-reverse}
 use Rattle.charger.specs.Code.Vehicles.{listed}
-use Rattle.engine.specs.Plan.{Plan}
 use Rattle.engine.specs.Code.Simulation.{model, connectors_of}
 use Rattle.files.specs.Read.{vehicles_of, connector_rows}
 use Rattle.files.specs.BookSession.{book_sessions, entry}
@@ -39,8 +38,8 @@ returns c =
     let s = model c.args.state.now in
     let events = c.as_slice-events.result.now in
     let said_of = c.as_slice-sessions.result.now in
-    let vehicles : listed c.args.site.now.vehicles ≡ vehicles_of plan = ap (λ (p : Plan). p.vehicles) c.requires.state.read in
-    let rows : connectors_of c.args.site.now ≡ connector_rows plan = ap (λ (p : Plan). p.connectors) c.requires.state.read in
+    let vehicles : listed c.args.site.now.vehicles ≡ vehicles_of plan = c.requires.state.vehicles in
+    let rows : connectors_of c.args.site.now ≡ connector_rows plan = c.requires.state.connectors in
     -- the entries are what the book says of the sessions
     let said : said_of ≡ book_sessions plan s.site.sessions = c.as_slice-sessions.ensures.value ∙ c.entries-all.ensures.entries ∙ rw (vehicles, rows, c.as_slice.ensures.value) in
     let popped = c.as_slice-events.ensures.items in

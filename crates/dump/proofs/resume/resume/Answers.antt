@@ -17,13 +17,13 @@ returns-then-book-lt7168-clause-answer c =
 pub returns-in_err-read_plan-clause-answer : goal.returns-in_err-read_plan-clause-answer
 returns-in_err-read_plan-clause-answer c =
     let e = err_from_is_err_and c.from_residual.result c.from_residual.ensures.1 in
-    rw (e.1, e.2) (sym (by_plan _ _ _ _ c.if-further-gt10000000.false c.if-book-lt7168.false _ c.in_err-read_plan.ensures))
+    rw (e.1, e.2) (sym (by_plan _ _ _ _ c.if-further-gt10000000.false c.if-book-lt7168.false _ c.in_err-read_plan.ensures.answer))
 
 pub returns : goal.returns
 returns c =
     let ran = c.resume_site.ensures in
     -- once the first two tests are passed, the plan and then the dump decide
     let answer : c.resume_site.result ≡ continued_answer c.args.plan.now c.args.dump.now c.args.further (length c.args.book.now)
-    = ran.answer ∙ sym (by_plan _ _ _ _ c.if-further-gt10000000.false c.if-book-lt7168.false (Ok tt) c.in_ok-read_plan.ensures.fine) in
+    = ran.answer ∙ sym (by_plan _ _ _ _ c.if-further-gt10000000.false c.if-book-lt7168.false (Ok tt) c.in_ok-read_plan.ensures.answer.fine) in
     let p = resumed _ _ _ c.resume_site.result _ _ answer ran.book ran.back in
     record { answer = answer; book = ran.book; unbroken = p.unbroken; reached = p.reached; parts = p.parts; ended = p.ended; more = p.more; back = p.run.back; units = p.run.units; free = p.run.free; settled = p.run.settled; spots = p.run.spots; ids = p.run.ids; counts = p.run.counts; outcomes = p.run.outcomes; closed = p.run.closed; waits = p.run.waits; handled = p.run.handled; events = p.run.events; hot_day = p.run.hot_day; rating = p.run.rating; fleets = p.run.fleets; carried = p.run.carried; no_fleets = p.run.no_fleets }

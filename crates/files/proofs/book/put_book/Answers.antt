@@ -6,7 +6,6 @@ use lib.Seq.{sets, sets-eq}
 use mathlib.Core.List.{List, ◌++◌}
 use Prim.Native.Nat.{ℕ, ◌≤◌}
 use native.Mathlib.Nat.{zero-add}
-use Rattle.charger.specs.Lists.{tick}
 use Rattle.files.specs.SessionBlocks.{session_blocks}
 use Rattle.files.specs.Book.{header_block, book_bytes, written}
 use Rattle.files.specs.declared.book_session.BookSession.{BookSession}
@@ -29,6 +28,6 @@ put-book s a r engine ended used xs k h p q =
 
 pub returns : goal.returns
 returns c =
-    put-book c.args.book.now c.put_header.new.s c.put_session_blocks.new.s c.args.engine (tick c.args.ended) c.args.used c.args.sessions.now c.requires.few c.requires.room
+    put-book c.args.book.now c.put_header.new.s c.put_session_blocks.new.s c.args.engine c.args.ended c.args.used c.args.sessions.now c.requires.few c.requires.room
     c.put_header.ensures
     c.put_session_blocks.ensures

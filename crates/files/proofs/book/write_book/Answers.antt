@@ -1,13 +1,11 @@
 -- `files::book::write_book` meets its contract. Assumes nothing.
-use mathlib.Core.Path.{◌≡◌, ap, subst, ◌∙◌}
+use mathlib.Core.Path.{◌≡◌, subst, ◌∙◌}
 use mathlib.Core.List.{List}
 use Prim.Native.Nat.{◌≤◌}
 use native.Mathlib.Omega.{arith}
 use lib.ListN.{length, length-map}
-use Rattle.charger.specs.Lists.{All, tick}
+use Rattle.charger.specs.Lists.{All}
 use Rattle.charger.specs.Code.Vehicles.{listed}
-use Rattle.charger.proofs.Lists.{tick_le}
-use Rattle.engine.specs.Plan.{Plan}
 use Rattle.engine.specs.Code.Simulation.{connectors_of}
 use Rattle.files.specs.Read.{vehicles_of, connector_rows}
 use Rattle.files.specs.BookSession.{book_sessions, entry, Fits}
@@ -22,14 +20,14 @@ unfolding book_sessions
 returns c =
     let plan = c.args.plan.now in
     let xs = book_sessions plan c.args.sessions.now in
-    let vehicles : listed c.args.site.now.vehicles ≡ vehicles_of plan = ap (λ (p : Plan). p.vehicles) c.requires.read in
-    let rows : (connectors_of c.args.site.now) ≡ connector_rows plan = ap (λ (p : Plan). p.connectors) c.requires.read in
+    let vehicles : listed c.args.site.now.vehicles ≡ vehicles_of plan = c.requires.vehicles in
+    let rows : (connectors_of c.args.site.now) ≡ connector_rows plan = c.requires.connectors in
     let said : c.as_slice.result.now ≡ xs = c.as_slice.ensures.value ∙ (c.entries-all.ensures.entries ∙ rw (vehicles, rows)) in
     let book =
-    subst (λ (ys : List BookSession). c.put_book.new.book ≡ written (book_bytes c.args.engine (tick c.args.ended) c.args.used ys) c.args.book.now) said c.put_book.ensures in
+    subst (λ (ys : List BookSession). c.put_book.new.book ≡ written (book_bytes c.args.engine c.args.ended c.args.used ys) c.args.book.now) said c.put_book.ensures in
     let few : length xs ≤ 64 = rw (length-map c.args.sessions.now (entry plan (vehicles_of plan) (connector_rows plan))) c.requires.sessions in
     let fit : All Fits xs = rw (← said, c.as_slice.ensures.value) c.entries-all.ensures.fit in
     record {
       book = book;
-      back = rw book (book_back c.args.engine (tick c.args.ended) c.args.used xs c.args.book.now few (omega (arith, c.ranges)) (omega (arith, tick_le c.args.ended)) (omega (arith, c.ranges)) fit);
+      back = rw book (book_back c.args.engine c.args.ended c.args.used xs c.args.book.now few (omega (arith, c.ranges)) (omega (arith, c.ranges)) (omega (arith, c.ranges)) fit);
     }

@@ -18,13 +18,13 @@ returns-then-book-lt7168-clause-answer c = book_under _ _ _ _ c.if-engine-gt1.fa
 pub returns-in_err-read_plan-clause-answer : goal.returns-in_err-read_plan-clause-answer
 returns-in_err-read_plan-clause-answer c =
     let e = err_from_is_err_and c.from_residual.result c.from_residual.ensures.1 in
-    rw (e.1, e.2) (sym (by_plan _ _ _ _ c.if-engine-gt1.false c.if-allowance-gt10000000.false c.if-book-lt7168.false _ c.in_err-read_plan.ensures))
+    rw (e.1, e.2) (sym (by_plan _ _ _ _ c.if-engine-gt1.false c.if-allowance-gt10000000.false c.if-book-lt7168.false _ c.in_err-read_plan.ensures.answer))
 
 pub returns : goal.returns
 returns c =
     let done = c.run_site.ensures in
     let r = Ok c.run_site.result in
     let answer : r ≡ answer_of c.args.plan.now c.args.engine c.args.allowance (length c.args.book.now)
-    = rw (done.counted, by_plan _ _ _ _ c.if-engine-gt1.false c.if-allowance-gt10000000.false c.if-book-lt7168.false (Ok tt) c.in_ok-read_plan.ensures.fine) in
+    = rw (done.counted, by_plan _ _ _ _ c.if-engine-gt1.false c.if-allowance-gt10000000.false c.if-book-lt7168.false (Ok tt) c.in_ok-read_plan.ensures.answer.fine) in
     let p = promised _ _ _ r (known_run _ _ _ _ r answer) _ _ done.book (rw done.counted done.back) in
     record { answer = answer; book = done.book; back = p.back; units = p.units; free = p.free; settled = p.settled; spots = p.spots; ids = p.ids; counts = p.counts; outcomes = p.outcomes; closed = p.closed; waits = p.waits; handled = p.handled; events = p.events; steps = p.steps; hot_day = p.hot_day; rating = p.rating; fleets = p.fleets; carried = p.carried; no_fleets = p.no_fleets }

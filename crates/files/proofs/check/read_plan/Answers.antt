@@ -7,9 +7,9 @@ use Rattle.files.specs.Pairs.{failing_pair}
 use Rattle.files.proofs.read.Accepted.{counted}
 use Rattle.files.proofs.check.read_plan.Goals as goal
 
-pub returns-in_err-check_blocks : goal.returns-in_err-check_blocks
+pub returns-in_err-check_blocks-clause-answer : goal.returns-in_err-check_blocks-clause-answer
 unfolding check_plan
-returns-in_err-check_blocks c =
+returns-in_err-check_blocks-clause-answer c =
     let e = err_from_is_err_and c.from_residual.result c.from_residual.ensures.1 in
     rw e.1 (rw (← c.check_blocks.ensures, c.in_err-check_blocks.was, e.2))
 
@@ -20,6 +20,6 @@ pub pair_answer-requires : goal.pair_answer-requires
 pair_answer-requires c =
     (counted _ (sym c.check_blocks.ensures ∙ c.in_ok-check_blocks.was), c.failing_pair.ensures ∙ ap failing_pair c.read_site.ensures)
 
-pub returns : goal.returns
-returns c =
+pub returns-clause-answer : goal.returns-clause-answer
+returns-clause-answer c =
     reads _ _ _ (sym c.check_blocks.ensures ∙ c.in_ok-check_blocks.was) c.read_site.ensures (c.pair_answer.ensures ∙ ap (pair_answer c.args.plan.now) (c.failing_pair.ensures ∙ ap failing_pair c.read_site.ensures))
