@@ -2,7 +2,7 @@
 """Counts the places of docs/DESIGN-PASS.md: python3 tools/places.py [COMMIT]. With no commit, in the files as they stand.
 
 Points 1, 2, 4, 6 and 7 are listed in tools/places.tsv (point, file of crates/, pattern, what it is); a place is there while its
-pattern is. Point 3 counts the loops that move a number of their own condition, point 5 what stands in many signatures."""
+pattern is, and one that moved names both files. Point 3 counts the loops that move a number of their own condition, point 5 what stands in many signatures."""
 import re
 import subprocess
 import sys
@@ -24,7 +24,7 @@ def listed(files):
     for line in (TOP / "tools" / "places.tsv").read_text().splitlines():
         point, name, pattern, what = line.split("\t")
         # a parameter list is one line here
-        text = re.sub(r"\(\n\s+([^()]*?),?\n\)", lambda m: "(" + re.sub(r"\s+", " ", m[1]) + ")", files.get(name, ""))
+        text = re.sub(r"\(\n\s+([^()]*?),?\n\)", lambda m: "(" + re.sub(r"\s+", " ", m[1]) + ")", "\n".join(files.get(n, "") for n in name.split()))
         if re.search(pattern, text, re.M):
             yield int(point), name, what, pattern
 

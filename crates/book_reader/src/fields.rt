@@ -2,8 +2,7 @@
 ghost use Rattle.std.specs.Prelude.{◌≡◌, ◌*◌, ◌≤◌, ◌<◌, length};
 ghost use Rattle.plan.specs.Search.{holds};
 ghost use Rattle.book_reader.specs.SessionRules.{zero_unless, connector_ok, session_tests};
-ghost use Rattle.book_reader.specs.Reader.{letters_ok, header_tests, rest_ok};
-ghost use Rattle.book_reader.specs.Code.Read.{Room};
+ghost use Rattle.book_reader.specs.Reader.{letters_ok, header_tests};
 
 use files::book_session::{BookSession, charged, plugged};
 use plan::bytes::{u8_at, u16_at};
@@ -13,7 +12,7 @@ fn letters_ok(b: &[u8]) -> bool
     requires { 512 ≤ length b.now }
     ensures { result ≡ letters_ok b.now }
 {
-    (b[0] == b'B') & (b[1] == b'O') & (b[2] == b'O') & (b[3] == b'K')
+    b.starts_with(b"BOOK")
 }
 
 // The header's fields and zero bytes, and as many blocks as its sessions take.
@@ -63,14 +62,4 @@ pub fn session_ok(x: BookSession) -> bool
         & zero_unless(done, x.peak)
         & zero_unless(done, x.energy)
         & zero_unless(there, x.end)
-}
-
-// Bytes behind the last session of the j-th block of sessions, up to its check.
-pub fn rest_ok(book: &[u8], n: usize, j: usize) -> bool
-    requires { Room book.now n × (5 * j < n) }
-    ensures { result ≡ rest_ok book.now j }
-{
-    let there = (n - 5 * j).min(5);
-    let start = 512 + 512 * j;
-    zeros(book, start + 96 * there, start + 508)
 }

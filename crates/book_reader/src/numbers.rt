@@ -4,11 +4,10 @@ ghost use Rattle.std.proofs.lemmas.List.Edits.{sets};
 ghost use Rattle.plan.specs.Bytes.{pieces};
 ghost use Rattle.files.specs.Book.{sessions_in};
 ghost use Rattle.book_reader.specs.Reader.{read_book, reading_numbers, header_after, session_numbers, numbers_at, sessions_after};
-ghost use Rattle.book_reader.specs.Code.Read.{Room};
 ghost use Rattle.book_reader.specs.Accepted.{OfWriter, ComesBack, Unique, OfRuns};
 
 use crate::reader::{BookHeader, header_of, test_book};
-use crate::sessions::session_at;
+use crate::sessions::BookSessions;
 use files::book_session::BookSession;
 use plan::answer::check_numbers;
 
@@ -36,21 +35,22 @@ fn session_numbers(x: BookSession) -> [u64; 16]
     ]
 }
 
-// Stores sixteen numbers into out from at.
+// Stores sixteen numbers into out from at. One by one: a copy of the whole row makes the reading of one session half as slow again.
 fn put_numbers(out: &mut [u64], at: usize, row: [u64; 16])
     requires { at + 16 ≤ length out.old }
     ensures { out.new ≡ sets out.old at row }
 {
-    out[at..at + 16].copy_from_slice(&row);
+    for i in 0..16 {
+        out[at + i] = row[i];
+    }
 }
 
-// Stores the numbers of a book's n sessions into out, and zeros past them.
-fn put_sessions(out: &mut [u64], book: &[u8], n: usize)
-    requires { Room book.now n × (length out.old ≡ 1024) }
-    ensures { out.new ≡ pieces (numbers_at (sessions_in book.now)) 0 64 }
+// Stores the numbers of a book's sessions into out, and zeros past them.
+fn put_sessions(out: &mut [u64; 1024], sessions: BookSessions<'_>)
+    ensures { out.new ≡ pieces (numbers_at (sessions_in sessions.entry.book.now)) 0 64 }
 {
     for k in 0..64 {
-        put_numbers(out, 16 * k, session_numbers(session_at(book, n, k)));
+        put_numbers(out, 16 * k, session_numbers(sessions.session_at(k)));
     }
 }
 
@@ -76,7 +76,11 @@ pub fn read_numbers(book: &[u8], header: &mut [u64; 4], sessions: &mut [u64; 102
         Err(_) => numbers,
         Ok(()) => {
             let h = header_of(book);
-            put_sessions(sessions, book, h.count);
+            let read = BookSessions {
+                book,
+                count: h.count,
+            };
+            put_sessions(sessions, read);
             *header = header_numbers(h);
             numbers
         }

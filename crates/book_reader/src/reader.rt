@@ -6,7 +6,7 @@ ghost use Rattle.book_reader.specs.Code.Read.{header_of, reading, Beside};
 
 use crate::blocks::damaged;
 use crate::fields::header_ok;
-use crate::sessions::{read_sessions, rests_ok, sessions_ok};
+use crate::sessions::BookSessions;
 use arrayvec::ArrayVec;
 use files::book_session::BookSession;
 use plan::answer::Refusal;
@@ -38,8 +38,11 @@ pub fn test_book(book: &[u8]) -> Result<(), Refusal>
     if !header_ok(book) {
         return Err(Refusal::BookAgainstRules);
     }
-    let n = u16_at(book, 4);
-    if sessions_ok(book, n) & rests_ok(book, n) {
+    let sessions = BookSessions {
+        book,
+        count: u16_at(book, 4),
+    };
+    if sessions.sessions_ok() & sessions.rests_ok() {
         return Ok(());
     }
     Err(Refusal::BookAgainstRules)
@@ -69,6 +72,12 @@ pub fn read_book(book: &[u8]) -> Result<ReadBook, Refusal>
 {
     test_book(book)?;
     let header = header_of(book);
-    let sessions = read_sessions(book, header.count);
-    Ok(ReadBook { header, sessions })
+    let sessions = BookSessions {
+        book,
+        count: header.count,
+    };
+    Ok(ReadBook {
+        header,
+        sessions: sessions.read(),
+    })
 }

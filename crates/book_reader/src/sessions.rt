@@ -1,5 +1,5 @@
 // The sessions of a book, read and tested.
-ghost use Rattle.std.specs.Prelude.{◌≡◌, ◌+◌, ◌/◌, ◌≤◌, ◌<◌, length, get_or, drop};
+ghost use Rattle.std.specs.Prelude.{◌≡◌, ◌+◌, ◌*◌, ◌/◌, ◌≤◌, ◌<◌, length, get_or, drop};
 ghost use Rattle.plan.specs.Search.{every};
 ghost use Rattle.files.specs.SessionBlocks.{session_of};
 ghost use Rattle.files.specs.BookSession.{no_session};
@@ -7,10 +7,11 @@ ghost use Rattle.files.specs.Book.{book_offset, sessions_in};
 ghost use Rattle.book_reader.specs.Reader.{session_ok, rest_ok};
 ghost use Rattle.book_reader.specs.Code.Read.{Room};
 
-use crate::fields::{rest_ok, session_ok};
+use crate::fields::session_ok;
 use arrayvec::ArrayVec;
-use files::book_session::{BookSession, no_session};
+use files::book_session::BookSession;
 use plan::bytes::{u8_at, u16_at, u32_at, u64_at};
+use plan::fields::zeros;
 
 // The session that s begins with.
 fn read_session(s: &[u8]) -> BookSession
@@ -45,61 +46,78 @@ fn offset_of(k: usize) -> usize
     512 + 512 * (k / 5) + 96 * (k % 5)
 }
 
-// The session at the index k, one of the n of a book.
-fn session_in(book: &[u8], n: usize, k: usize) -> BookSession
-    requires { Room book.now n × (k < n) }
-    ensures { result ≡ session_of (drop (book_offset k) book.now) }
-{
-    let at = offset_of(k);
-    read_session(&book[at..])
+// A book with the blocks of its sessions, as many as its header says.
+#[derive(Clone, Copy)]
+pub struct BookSessions<'a> {
+    pub book: &'a [u8],
+    pub count: usize,
+    ghost room: { Room book.now count },
 }
 
-// The session at the index k of a book of n sessions; past the last there is none.
-pub fn session_at(book: &[u8], n: usize, k: usize) -> BookSession
-    requires { Room book.now n }
-    ensures { result ≡ get_or (sessions_in book.now) k no_session }
-{
-    if n <= k {
-        return no_session();
+impl BookSessions<'_> {
+    // The session at the index k. Its callers take its fields at once: without the hint it goes through memory.
+    #[inline(always)]
+    fn session_in(self, k: usize) -> BookSession
+        requires { k < self.count }
+        ensures { result ≡ session_of (drop (book_offset k) self.entry.book.now) }
+    {
+        let at = offset_of(k);
+        read_session(&self.book[at..])
     }
-    session_in(book, n, k)
-}
 
-// Each of the n sessions follows the rules.
-pub fn sessions_ok(book: &[u8], n: usize) -> bool
-    requires { Room book.now n }
-    ensures { result ≡ every (session_ok book.now) 0 n }
-{
-    for k in 0..n {
-        if !session_ok(session_in(book, n, k)) {
-            return false;
+    // The session at the index k; past the last there is none.
+    pub fn session_at(self, k: usize) -> BookSession
+        ensures { result ≡ get_or (sessions_in self.entry.book.now) k no_session }
+    {
+        if self.count <= k {
+            return BookSession::default();
         }
+        self.session_in(k)
     }
-    true
-}
 
-// What follows the last session of each block is zero.
-pub fn rests_ok(book: &[u8], n: usize) -> bool
-    requires { Room book.now n }
-    ensures { result ≡ every (rest_ok book.now) 0 ((n + 4) / 5) }
-{
-    let blocks = (n + 4) / 5;
-    for j in 0..blocks {
-        if !rest_ok(book, n, j) {
-            return false;
+    // Each session follows the rules.
+    pub fn sessions_ok(self) -> bool
+        ensures { result ≡ every (session_ok self.entry.book.now) 0 self.entry.count }
+    {
+        for k in 0..self.count {
+            if !session_ok(self.session_in(k)) {
+                return false;
+            }
         }
+        true
     }
-    true
-}
 
-// Reads the n sessions of a book.
-pub fn read_sessions(book: &[u8], n: usize) -> ArrayVec<BookSession, 64>
-    requires { Room book.now n }
-    ensures { result.items ≡ sessions_in book.now }
-{
-    let mut all = ArrayVec::new();
-    for k in 0..n {
-        all.push(session_in(book, n, k));
+    // What follows the last session of each block is zero.
+    pub fn rests_ok(self) -> bool
+        ensures { result ≡ every (rest_ok self.entry.book.now) 0 ((self.entry.count + 4) / 5) }
+    {
+        let blocks = (self.count + 4) / 5;
+        for j in 0..blocks {
+            if !self.rest_ok(j) {
+                return false;
+            }
+        }
+        true
     }
-    all
+
+    // Bytes behind the last session of the j-th block of sessions, up to its check.
+    fn rest_ok(self, j: usize) -> bool
+        requires { 5 * j < self.count }
+        ensures { result ≡ rest_ok self.entry.book.now j }
+    {
+        let there = (self.count - 5 * j).min(5);
+        let start = 512 + 512 * j;
+        zeros(self.book, start + 96 * there, start + 508)
+    }
+
+    // Reads all sessions.
+    pub fn read(self) -> ArrayVec<BookSession, 64>
+        ensures { result.items ≡ sessions_in self.entry.book.now }
+    {
+        let mut all = ArrayVec::new();
+        for k in 0..self.count {
+            all.push(self.session_in(k));
+        }
+        all
+    }
 }

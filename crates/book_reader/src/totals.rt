@@ -5,6 +5,7 @@ ghost use Rattle.book_reader.specs.Totals.{energy_with, totals_of, totals_answer
 ghost use Rattle.book_reader.specs.Code.Sums.{added as Sums·added};
 
 use crate::reader::read_book;
+use arrayvec::ArrayVec;
 use curve::float::of_bits;
 use curve::units::Kwh;
 use files::book_session::{BookSession, charged};
@@ -47,10 +48,10 @@ impl BookTotals {
 }
 
 // The totals of some sessions.
-fn sum_up(sessions: &[BookSession]) -> BookTotals
-    requires { length sessions.now ≤ 64 }
-    ensures { result ≡ totals_of sessions.now }
+fn sum_up(all: &ArrayVec<BookSession, 64>) -> BookTotals
+    ensures { result ≡ totals_of all.now.items }
 {
+    let sessions = all.as_slice();
     let mut t = BookTotals {
         still_open: 0,
         charged: 0,
@@ -70,5 +71,5 @@ pub fn totals(book: &[u8]) -> Result<BookTotals, Refusal>
     ensures { result ≡ totals_answer (read_book book.now) }
 {
     let read = read_book(book)?;
-    Ok(sum_up(read.sessions.as_slice()))
+    Ok(sum_up(&read.sessions))
 }

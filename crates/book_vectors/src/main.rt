@@ -5,7 +5,7 @@
 
 use book_reader::numbers::read_numbers;
 use reading::read_full;
-use recorded::{Record, answer_bytes, digest};
+use recorded::{Record, answer_bytes, digest, replay};
 use std::io;
 
 // What a call is lent.
@@ -26,22 +26,14 @@ impl Buffers {
     }
 }
 
-// The numbers that a refused call leaves alone are sevens at first.
-fn replay(rt: &impl Print, record: &mut Record) -> io::Result<()> {
+fn main(rt: HostRuntime) -> io::Result<()> {
+    let mut record = [0u8; 65536];
+    let n = read_full(&mut rt.stdin(), &mut record)?;
+    // The numbers that a refused call leaves alone are sevens at first.
     let mut buffers = Buffers {
         book: [0; 7680],
         header: [7; 4],
         sessions: [7; 1024],
     };
-    let calls = record.u32();
-    for _ in 0..calls {
-        buffers.replay_call(rt, record)?;
-    }
-    Ok(())
-}
-
-fn main(rt: HostRuntime) -> io::Result<()> {
-    let mut record = [0u8; 65536];
-    let n = read_full(&mut rt.stdin(), &mut record)?;
-    replay(&rt, &mut Record { rest: &record[..n] })
+    replay(&record[..n], |next| buffers.replay_call(&rt, next))
 }

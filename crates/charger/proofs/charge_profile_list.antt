@@ -1,1 +1,1 @@
-pub mod Profiles
+pub mod Table

@@ -1,6 +1,5 @@
 // A charger's leads and its power (charger.rs).
 ghost use Rattle.std.specs.Prelude.{◌≡◌};
-ghost use Rattle.curve.specs.F64.{least};
 ghost use Rattle.charger.specs.Charger.{no_charger, cap_of, current_of, resolve, actual_max_power, rated_power};
 ghost use Rattle.charger.specs.Leads.{CapsLower};
 
@@ -8,8 +7,9 @@ use crate::vehicle::{Vehicle, connector_of};
 use curve::float::min;
 use curve::units::{Amperes, Kw, Volts};
 
-// `caps` has for each connector code, from 1, the most that its lead carries; 0 A means no cap, as zero bytes in a plan do.
-#[derive(Clone, Copy)]
+// `caps` has for each connector code, from 1, the most that its lead carries. 0 A means no cap, as zero bytes in a plan do and as the rules
+// say; an `Option` in each would take a word more, and say no more than they do.
+#[derive(Clone, Copy, Default)]
 pub struct Charger {
     pub max_power: Kw,
     pub current: Amperes,
@@ -36,12 +36,6 @@ pub fn no_charger() -> Charger
     }
 }
 
-impl Default for Charger {
-    fn default() -> Self {
-        no_charger()
-    }
-}
-
 // The cap of the lead with a code, 0 A where it has none.
 fn cap_of(charger: Charger, code: u8) -> Amperes
     ensures { result ≡ cap_of charger code }
@@ -52,12 +46,6 @@ fn cap_of(charger: Charger, code: u8) -> Amperes
     }
 }
 
-fn smaller(a: Amperes, b: Amperes) -> Amperes
-    ensures { result.0 ≡ least a.0 b.0 }
-{
-    Amperes(min(a.0, b.0))
-}
-
 // The current through the lead with a code: the smaller of its cap, if it has one, and the charger's.
 fn current_of(charger: Charger, code: u8) -> Amperes
     ensures { result ≡ current_of charger code }
@@ -66,7 +54,7 @@ fn current_of(charger: Charger, code: u8) -> Amperes
     if cap.0 == 0.0 {
         return charger.current;
     }
-    smaller(cap, charger.current)
+    Amperes(min(cap.0, charger.current.0))
 }
 
 // The connector that the pair uses, with its current.

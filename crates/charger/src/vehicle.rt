@@ -5,10 +5,10 @@ ghost use Rattle.charger.specs.Vehicle.{no_vehicle, connector_of, compatible};
 use crate::connector::common_connector;
 use curve::units::Seconds;
 
-// `profile` is its charge profile's place in the plan. Its connectors, in its order of preference, are the first `count` codes:
-// a vehicle is `Copy`, and the library's vector is not.
-// Fleet 0 is none, as in a plan. It stands behind the codes, where it takes no room of its own.
-#[derive(Clone, Copy)]
+// `profile` is its charge profile's place in the plan. Its connectors, in its order of preference, are the first `count` codes. As the struct
+// of both, `Connectors`, they would take eight bytes more: the fleet lies in the word of the codes, and a vehicle is copied at each event.
+// Fleet 0 is none, as a plan writes it and the rules name it; an `Option` would take a word more, and say no more than they do.
+#[derive(Clone, Copy, Default)]
 pub struct Vehicle {
     pub profile: usize,
     pub codes: [u8; 5],
@@ -40,7 +40,8 @@ pub fn no_vehicle() -> Vehicle
     }
 }
 
-// The connector that the pair has in common: the first of the vehicle's that the charger has.
+// The connector that the pair has in common: the first of the vehicle's that the charger has. Row and vehicle are the two
+// sides of a pair, which are looked up apart.
 pub fn connector_of(row: [bool; 5], vehicle: Vehicle) -> Option<u8>
     ensures { result ≡ connector_of row vehicle }
 {

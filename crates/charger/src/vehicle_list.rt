@@ -1,26 +1,24 @@
 // The plan's vehicles (vehicle_list.rs).
-ghost use Rattle.std.specs.Prelude.{◌≡◌, ◌≤◌};
-ghost use Rattle.charger.specs.Vehicle.{vehicle_at, no_vehicle};
-ghost use Rattle.charger.specs.Fleet.{places_of};
-ghost use Rattle.charger.specs.Code.Vehicles.{listed};
+ghost use Rattle.std.specs.Prelude.{◌≤◌, length};
 
 use crate::vehicle::{Vehicle, no_vehicle};
 use arrayvec::ArrayVec;
 
-impl Default for Vehicle {
-    fn default() -> Self {
-        no_vehicle()
-    }
-}
-
-// The vehicles in plan order, and the queue places of fleets 1 to 64.
+// The vehicles in plan order, and the queue places of fleets 1 to 64. That the vector holds no more than 64, its own contracts say only where
+// it is lent.
 #[derive(Drop)]
 pub struct VehicleList {
     pub vehicles: ArrayVec<Vehicle, 64>,
     pub queue_places: [u8; 64],
+    ghost few: { length vehicles.items ≤ 64 },
 }
 
 impl VehicleList {
+    ghost use Rattle.std.specs.Prelude.{◌≡◌};
+    ghost use Rattle.charger.specs.Vehicle.{vehicle_at, no_vehicle};
+    ghost use Rattle.charger.specs.Fleet.{places_of};
+    ghost use Rattle.charger.specs.Code.Vehicles.{listed};
+
     // The vehicle at a place of the plan; past the last one that fits no charger.
     pub fn get_vehicle(&self, v: usize) -> Vehicle
         ensures { result ≡ vehicle_at (listed self.now) v }

@@ -59,7 +59,7 @@ impl WaitingQueue {
             .count()
     }
 
-    // The fleet has filled its places. Fleet 0 has no such limit.
+    // The fleet has filled its places. Fleet 0 is none (see `Vehicle`), and the rules give it no such limit.
     pub fn fleet_full(&self, vehicles: &VehicleList, fleet: u16) -> bool
         ensures { result ≡ fleet_full (listed vehicles.now) vehicles.now.queue_places fleet (waiting self.now) }
     {

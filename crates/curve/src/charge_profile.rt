@@ -39,6 +39,13 @@ pub struct Walk {
     pub place: Place,
 }
 
+// A segment of the curve, from one point to the next.
+#[derive(Clone, Copy)]
+struct Segment {
+    start: Point,
+    end: Point,
+}
+
 // The power at `soc` on the line through p and q.
 pub fn between(p: Point, q: Point, soc: f64) -> Kw
     ensures { result ≡ Curve.between p q soc }
@@ -71,7 +78,8 @@ pub fn power_at(curve: &[Point], soc: f64) -> Kw
     power_after(curve, reached(curve, soc), soc)
 }
 
-// The place of `soc` where the points rise and `near` of them, and at most a few more, are at or below it.
+// The place of `soc` where the points rise and `near` of them, and at most a few more, are at or below it. That they rise is asked by clause, as
+// by the searches of `points`.
 pub fn place_near(curve: &[Point], near: usize, soc: f64) -> Place
     requires { Rises le curve.now }
     ensures { result ≡ Places.place curve.now soc }
@@ -95,13 +103,6 @@ fn locate_from(curve: &[Point], i: usize, soc: f64) -> Place
     }
 }
 
-// The place of `soc`.
-fn locate(curve: &[Point], soc: f64) -> Place
-    ensures { result ≡ Places.place curve.now soc }
-{
-    locate_from(curve, 0, soc)
-}
-
 // The place of `to` from that of `from`. Upward the search goes on where the last one ended.
 fn onward(curve: &[Point], from: f64, place: Place, to: f64) -> Place
     requires { place ≡ Places.place curve.now from }
@@ -110,7 +111,7 @@ fn onward(curve: &[Point], from: f64, place: Place, to: f64) -> Place
     if from <= to {
         return locate_from(curve, place.reached, to);
     }
-    locate(curve, to)
+    locate_from(curve, 0, to)
 }
 
 // The place of the larger of `soc` and `start`, from that of `soc`.
@@ -119,10 +120,10 @@ fn from_start(curve: &[Point], soc: f64, place: Place, start: f64) -> Place
     ensures { result ≡ Places.place curve.now (greatest soc start) }
 {
     if soc != soc {
-        return locate(curve, start);
+        return locate_from(curve, 0, start);
     }
     if soc < start {
-        return locate(curve, start);
+        return locate_from(curve, 0, start);
     }
     place
 }
@@ -137,12 +138,14 @@ fn average(a: Kw, b: Kw, cap: Kw) -> Kw
     Kw(0.5 * (min(first, most) + min(last, most)))
 }
 
-// Charging over the part of the segment from p to q between the SOC reached and the target.
-fn part(curve: &[Point], battery: Kwh, target: f64, cap: Kw, p: Point, q: Point, w: Walk) -> Walk
+// Charging over the part of the segment between the SOC reached and the target.
+fn part(curve: &[Point], battery: Kwh, target: f64, cap: Kw, segment: Segment, w: Walk) -> Walk
     requires { w ≡ Places.walk curve.now w.charge }
-    ensures { result ≡ Places.walk curve.now (Curve.part curve.now battery target cap p q w.charge) }
+    ensures { result ≡ Places.walk curve.now (Curve.part curve.now battery target cap segment.start segment.end w.charge) }
 {
     let c = w.charge;
+    let p = segment.start;
+    let q = segment.end;
     let s = max(c.soc, p.soc);
     let e = min(target, q.soc);
     let first = from_start(curve, c.soc, w.place, p.soc);
@@ -163,17 +166,17 @@ fn part(curve: &[Point], battery: Kwh, target: f64, cap: Kw, p: Point, q: Point,
 }
 
 // The same, if the SOC reached is below the target and the segment's end.
-fn through(curve: &[Point], battery: Kwh, target: f64, cap: Kw, p: Point, q: Point, w: Walk) -> Walk
+fn through(curve: &[Point], battery: Kwh, target: f64, cap: Kw, segment: Segment, w: Walk) -> Walk
     requires { w ≡ Places.walk curve.now w.charge }
-    ensures { result ≡ Places.walk curve.now (Curve.through curve.now battery target cap p q w.charge) }
+    ensures { result ≡ Places.walk curve.now (Curve.through curve.now battery target cap segment.start segment.end w.charge) }
 {
     if target <= w.charge.soc {
         return w;
     }
-    if q.soc <= w.charge.soc {
+    if segment.end.soc <= w.charge.soc {
         return w;
     }
-    part(curve, battery, target, cap, p, q, w)
+    part(curve, battery, target, cap, segment, w)
 }
 
 // How many points, from the first, have a SOC at or below `soc`, by the test that a segment is skipped for.
@@ -221,7 +224,8 @@ pub fn integrate_over(
         if target <= w.charge.soc {
             return w.charge.output;
         }
-        w = through(curve, battery, target, cap, p, *q, w);
+        let segment = Segment { start: p, end: *q };
+        w = through(curve, battery, target, cap, segment, w);
         p = *q;
     }
     w.charge.output

@@ -25,24 +25,25 @@ pub fn reached(points: &[Point], soc: f64) -> usize
     ensures bounded { result ≤ length points.now }
     ensures found { result ≡ Curve.reached soc points.now }
 {
-    for (i, p) in points.iter().enumerate() {
-        if soc < p.soc {
-            return i;
-        }
-    }
-    points.len()
+    reached_from(points, 0, soc)
 }
 
-// The same, where the first i points are.
+// The same, where the first i points are. The index is the answer: a search of the points behind them would count its own.
 pub fn reached_from(curve: &[Point], i: usize, soc: f64) -> usize
     requires { i ≤ length curve.now }
     ensures bounded { result ≤ length curve.now }
     ensures found { result ≡ i + Curve.reached soc (drop i curve.now) }
 {
-    i + reached(&curve[i..], soc)
+    for j in i..curve.len() {
+        if soc < curve[j].soc {
+            return j;
+        }
+    }
+    curve.len()
 }
 
-// The same where the points rise: by halves until at most eight points are left, and then one by one.
+// The same where the points rise: by halves until at most eight points are left, and then one by one. A loop that counts no index, so that no
+// `for` is plainer. That they rise is asked by clause: a type of rising points would be made for each search, to be taken apart in it.
 pub fn reached_rising(curve: &[Point], soc: f64) -> usize
     requires { Rises le curve.now }
     ensures bounded { result ≤ length curve.now }

@@ -1,5 +1,5 @@
 -- Rules. The dump of a run by events: the state after the last handled event, in blocks. Header, pending events, sessions.
-use Rattle.std.specs.Prelude.{ℕ, suc, ◌+◌, ◌*◌, ◌/◌, ◌%◌, Bool, not, ◌&&◌, List, [], ◌∷◌, ◌++◌, map, leb, eqb, length, get_or, take, drop}
+use Rattle.std.specs.Prelude.{◌≡◌, refl, ℕ, suc, ◌+◌, ◌*◌, ◌/◌, ◌%◌, Bool, not, ◌&&◌, List, [], ◌∷◌, ◌++◌, map, leb, eqb, length, get_or, take, drop}
 use Rattle.charger.specs.Lists.{count}
 use Rattle.engine.specs.Plan.{VehiclePlace, ChargerPlace}
 use Rattle.engine.specs.Discrete.{Occupant, no_car, car, is_vacant, State, run}
@@ -35,6 +35,10 @@ is_busy x = not (is_vacant x)
 -- room for 64 16-bit blocks, zero past the last one
 unfoldable pub table : List ℕ → List ℕ
 table xs = pieces (λ k. bytes 2 (get_or xs k 0)) 0 64
+
+pub length-place : (xs : List ℕ) (k : ℕ) → length (bytes 2 (get_or xs k 0)) ≡ 2
+unfolding bytes
+length-place xs k = refl
 
 -- the letters D, U, M, P; counts of queued, busy, events and sessions; used; from 24 the queue, from 152 the busy chargers
 unfoldable pub header_block : ℕ → ℕ → ℕ → ℕ → ℕ → List ℕ → List ℕ → List ℕ

@@ -1,5 +1,5 @@
 -- Rules. Blocks of pending events, 31 16-byte events a block, in the order in which they pop.
-use Rattle.std.specs.Prelude.{ℕ, ◌+◌, ◌*◌, ◌/◌, List, [], ◌∷◌, ◌++◌, map, length, get_or}
+use Rattle.std.specs.Prelude.{◌≡◌, refl, ℕ, zero, suc, ◌+◌, ◌*◌, ◌/◌, List, [], ◌∷◌, ◌++◌, map, length, get_or}
 use Rattle.engine.specs.declared.events.Event.{Event}
 use Rattle.engine.specs.declared.events.EventType.{EventType}
 use Rattle.engine.specs.declared.events.EventType.TheVariants.{Arrival, Renege, Unplug}
@@ -29,6 +29,12 @@ event_bytes plan e =
 -- the bytes of the event at the index k, zero past the last one
 unfoldable pub event_slot : List ℕ → List Event → ℕ → List ℕ
 event_slot plan es k = get_or (map (event_bytes plan) es) k (bytes 16 0)
+
+pub length-slot : (plan : List ℕ) (es : List Event) (k : ℕ) → length (event_slot plan es k) ≡ 16
+unfolding event_slot event_bytes fields bytes
+length-slot plan [] k = refl
+length-slot plan (e ∷ es) zero = refl
+length-slot plan (e ∷ es) (suc k) = length-slot plan es k
 
 -- the block of the events 31 j to 31 j + 30, where the first block of events is the place-th of its file
 unfoldable pub event_block : ℕ → List ℕ → List Event → ℕ → List ℕ

@@ -1,9 +1,8 @@
-// A run by events that fills a dump buffer beside its book.
+// A run by events that fills a dump buffer beside its book. The call takes what C lends, one by one.
 ghost use Rattle.std.specs.Prelude.{◌≡◌, ◌≤◌, length};
 ghost use Rattle.engine.specs.Demand.{by_events};
 ghost use Rattle.files.specs.Book.{written};
 ghost use Rattle.files.specs.Call.{book_after};
-ghost use Rattle.files.specs.Code.Reading.{Loaded};
 ghost use Rattle.files.specs.Code.Running.{Stopped};
 ghost use Rattle.files.specs.Demand.{ReadsBack, UnitsUsed, FreeKnown, NoFreeFits, OneSpot, OneById, AddUp, CountsOfBook, ClosedStay, ExactWaits, Handled, EventsEnd};
 ghost use Rattle.files.specs.HotDay.{HotDayOfRun, BookByRating};
@@ -17,17 +16,18 @@ use crate::dump::put_dump;
 use engine::discrete;
 use engine::site::Site;
 use files::check::read_plan;
+use files::loaded::LoadedPlan;
 use files::stop::stop_events;
 use plan::answer::{Refusal, Totals};
 
 // Runs a plan that was read, and writes its book and its dump.
-fn dump_site(plan: &[u8], site: &Site, allowance: u32, book: &mut [u8], dump: &mut [u8]) -> Totals
-    requires loaded { Loaded plan.now site.now }
+fn dump_site(read: LoadedPlan<'_>, allowance: u32, book: &mut [u8], dump: &mut [u8]) -> Totals
     requires room { 7168 ≤ length book.old }
     requires space { 16384 ≤ length dump.old }
-    ensures stopped { Stopped plan.now 0 (by_events (read_plan plan.now) allowance) book.old result book.new }
-    ensures dump { dump.new ≡ written (dump_of plan.now allowance) dump.old }
+    ensures stopped { Stopped read.entry.plan.now 0 (by_events (read_plan read.entry.plan.now) allowance) book.old result book.new }
+    ensures dump { dump.new ≡ written (dump_of read.entry.plan.now allowance) dump.old }
 {
+    let LoadedPlan { plan, site } = read;
     let state = discrete::run(site, u64::from(allowance));
     put_dump(dump, plan, site, &state);
     stop_events(book, plan, site, &state)
@@ -82,5 +82,6 @@ pub fn dump(
     }
     let mut site = Site::empty();
     read_plan(plan, &mut site)?;
-    Ok(dump_site(plan, &site, allowance, book, dump))
+    let read = LoadedPlan { plan, site: &site };
+    Ok(dump_site(read, allowance, book, dump))
 }

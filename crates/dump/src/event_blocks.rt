@@ -1,44 +1,44 @@
 // Blocks of pending events, 31 a block, in the order in which they pop.
-ghost use Rattle.std.specs.Prelude.{◌≡◌, ◌++◌, ◌+◌, ◌*◌, ◌≤◌, length, reverse, slice_get};
+ghost use Rattle.std.specs.Prelude.{◌≡◌, ◌+◌, ◌*◌, ◌≤◌, length, reverse, slice_get};
 ghost use Rattle.std.proofs.lemmas.List.Edits.{sets};
 ghost use Rattle.charger.specs.Lists.{All};
-ghost use Rattle.plan.specs.Bytes.{bytes, pieces};
-ghost use Rattle.plan.specs.Blocks.{sealed};
-ghost use Rattle.dump.specs.EventBlocks.{kind_number, block_by, event_bytes, event_slot, blocks_of_events, event_blocks};
-ghost use Rattle.dump.specs.Code.Dumping.{NearEvent};
+ghost use Rattle.dump.specs.EventBlocks.{block_by, event_bytes, event_slot, length-slot, blocks_of_events, event_blocks};
+ghost use Rattle.dump.specs.Code.Dumping.{NearEvent, near-one};
 
 use engine::events::{Event, EventType};
-use plan::blocks::seal;
 use plan::bytes::{put, put_fields};
-use plan::places::{Kind, place_of};
+use plan::places::{Kind, PlanFile};
+use plan::records::{Records, put_blocks};
 
-fn kind_number(kind: EventType) -> u64
-    ensures { result ≡ kind_number kind }
-{
-    kind as u64
+// The pending events, with the plan whose blocks they name; zero bytes stand past the last.
+#[derive(Clone, Copy)]
+struct Events<'a> {
+    plan: &'a PlanFile<'a>,
+    events: &'a [Event],
+    ghost near: { All NearEvent (reverse events.now) } by { near-one _ },
 }
 
 // The block in the plan that an event names: for an unplug the charger's, else the vehicle's.
-fn block_by(plan: &[u8], e: Event) -> usize
-    requires { (512 ≤ length plan.now) × NearEvent e }
+fn block_by(plan: &PlanFile, e: Event) -> usize
+    requires { NearEvent e }
     ensures { result ≡ block_by plan.now e.kind e.vehicle e.charger }
 {
     match e.kind {
-        EventType::Arrival => place_of(plan, Kind::Vehicle, e.vehicle),
-        EventType::Renege => place_of(plan, Kind::Vehicle, e.vehicle),
-        EventType::Unplug => place_of(plan, Kind::Charger, e.charger),
+        EventType::Arrival => plan.place_of(Kind::Vehicle, e.vehicle),
+        EventType::Renege => plan.place_of(Kind::Vehicle, e.vehicle),
+        EventType::Unplug => plan.place_of(Kind::Charger, e.charger),
     }
 }
 
 // Stores the 16 bytes of an event into s from at.
-fn put_event(s: &mut [u8], at: usize, plan: &[u8], e: Event)
+#[tactic(auto, unfolding(crate::specs::EventBlocks::event_bytes, plan::specs::Bytes::fields, plan::specs::Bytes::bytes))]
+fn put_event(s: &mut [u8], at: usize, plan: &PlanFile, e: Event)
     requires room { at + 16 ≤ length s.old }
-    requires plan { 512 ≤ length plan.now }
     requires near { NearEvent e }
     ensures { s.new ≡ sets s.old at (event_bytes plan.now e) }
 {
     let block = block_by(plan, e) as u64;
-    let f: [u64; 10] = [8, e.time, 1, kind_number(e.kind), 1, 0, 2, block, 4, 0];
+    let f: [(usize, u64); 5] = [(8, e.time), (1, e.kind as u64), (1, 0), (2, block), (4, 0)];
     put_fields(s, at, &f);
 }
 
@@ -52,55 +52,27 @@ fn event_at(events: &[Event], k: usize) -> Option<Event>
     None
 }
 
-// Stores the event at the place k into s from at, or zero bytes where it is not there.
-fn put_slot(s: &mut [u8], at: usize, plan: &[u8], events: &[Event], k: usize)
-    requires room { at + 16 ≤ length s.old }
-    requires plan { 512 ≤ length plan.now }
-    requires near { All NearEvent (reverse events.now) }
-    ensures { s.new ≡ sets s.old at (event_slot plan.now (reverse events.now) k) }
-{
-    match event_at(events, k) {
-        Some(e) => put_event(s, at, plan, e),
-        None => put(s, at, 16, 0),
-    }
-}
+impl Records<16> for Events<'_> {
+    ghost slot = { λ x. event_slot x.plan.now (reverse x.events.now) };
 
-// Stores 31 events, those from the place k on, into s from at.
-fn put_events(s: &mut [u8], at: usize, plan: &[u8], events: &[Event], k: usize)
-    requires room { at + 496 ≤ length s.old }
-    requires plan { 512 ≤ length plan.now }
-    requires near { All NearEvent (reverse events.now) }
-    requires place { k ≤ 65536 }
-    ensures { s.new ≡ sets s.old at (pieces (event_slot plan.now (reverse events.now)) k 31) }
-{
-    for i in 0..31 {
-        put_slot(s, at + 16 * i, plan, events, k + i);
-    }
-}
+    ghost wide = { λ x. length-slot x.plan.now (reverse x.events.now) };
 
-// Stores them as a block, the place-th of its file.
-fn put_event_block(s: &mut [u8], at: usize, place: u32, plan: &[u8], events: &[Event], k: usize)
-    requires room { at + 512 ≤ length s.old }
-    requires plan { 512 ≤ length plan.now }
-    requires near { All NearEvent (reverse events.now) }
-    requires place { k ≤ 65536 }
-    ensures { s.new ≡ sets s.old at (sealed place (pieces (event_slot plan.now (reverse events.now)) k 31 ++ bytes 12 0)) }
-{
-    put_events(s, at, plan, events, k);
-    put(s, at + 496, 12, 0);
-    seal(s, at, place);
+    fn put(&self, s: &mut [u8], at: usize, k: usize) {
+        match event_at(self.events, k) {
+            Some(e) => put_event(s, at, self.plan, e),
+            None => put(s, at, 16, 0),
+        }
+    }
 }
 
 // Stores the blocks of the pending events into s from at; the first of them is the place-th of its file.
-pub fn put_event_blocks(s: &mut [u8], at: usize, place: u32, plan: &[u8], events: &[Event])
+pub fn put_event_blocks(s: &mut [u8], at: usize, place: u32, plan: &PlanFile, events: &[Event])
     requires few { length events.now ≤ 192 }
     requires room { at + 512 * blocks_of_events (length events.now) ≤ length s.old }
-    requires plan { 512 ≤ length plan.now }
     requires near { All NearEvent (reverse events.now) }
     requires place { place ≤ 65536 }
     ensures { s.new ≡ sets s.old at (event_blocks place plan.now (reverse events.now)) }
 {
-    for j in 0..(events.len() + 30) / 31 {
-        put_event_block(s, at + 512 * j, place + j as u32, plan, events, 31 * j);
-    }
+    let blocks = (events.len() + 30) / 31;
+    put_blocks(s, at, place, &Events { plan, events }, 31, blocks);
 }

@@ -5,7 +5,7 @@ ghost use Rattle.charger.specs.Lists.{All};
 ghost use Rattle.charger.specs.Code.Queue.{waiting};
 ghost use Rattle.engine.specs.Code.Simulation.{model};
 ghost use Rattle.plan.specs.Bytes.{bytes};
-ghost use Rattle.dump.specs.Dump.{queue_blocks, busy_blocks, table, header_block, state_header};
+ghost use Rattle.dump.specs.Dump.{queue_blocks, busy_blocks, table, length-place, header_block, state_header};
 ghost use Rattle.dump.specs.Code.Dumping.{Near, NearCar};
 
 use arrayvec::ArrayVec;
@@ -13,7 +13,8 @@ use charger::waiting_queue::WaitingQueue;
 use engine::discrete::State;
 use plan::blocks::seal;
 use plan::bytes::{put, put_fields};
-use plan::places::{Kind, place_of};
+use plan::places::{Kind, PlanFile};
+use plan::records::{Records, put_records};
 
 // The counts of a dump, and the events handled.
 #[derive(Clone, Copy)]
@@ -26,21 +27,19 @@ pub struct Counts {
 }
 
 // The blocks of the queued vehicles.
-fn queue_blocks(plan: &[u8], queue: &WaitingQueue) -> ArrayVec<u64, 64>
-    requires plan { 512 ≤ length plan.now }
-    requires near { All Near (waiting queue.now) }
+fn queue_blocks(plan: &PlanFile, queue: &WaitingQueue) -> ArrayVec<u64, 64>
+    requires { All Near (waiting queue.now) }
     ensures { result.items ≡ queue_blocks plan.now (waiting queue.now) }
 {
     let mut blocks = ArrayVec::new();
     for v in queue.ids.iter() {
-        blocks.push(place_of(plan, Kind::Vehicle, *v) as u64);
+        blocks.push(plan.place_of(Kind::Vehicle, *v) as u64);
     }
     blocks
 }
 
 // The blocks of the busy chargers, each with its vehicle's, by who stands at each charger.
-fn busy_blocks(plan: &[u8], places: &[Option<usize>]) -> ArrayVec<u64, 64>
-    requires plan { 512 ≤ length plan.now }
+fn busy_blocks(plan: &PlanFile, places: &[Option<usize>]) -> ArrayVec<u64, 64>
     requires few { length places.now ≤ 32 }
     requires near { All NearCar places.now }
     ensures { result.items ≡ busy_blocks plan.now 0 places.now }
@@ -48,11 +47,17 @@ fn busy_blocks(plan: &[u8], places: &[Option<usize>]) -> ArrayVec<u64, 64>
     let mut blocks = ArrayVec::new();
     for (c, who) in places.iter().enumerate() {
         if let Some(car) = who {
-            blocks.push(place_of(plan, Kind::Charger, c) as u64);
-            blocks.push(place_of(plan, Kind::Vehicle, *car) as u64);
+            blocks.push(plan.place_of(Kind::Charger, c) as u64);
+            blocks.push(plan.place_of(Kind::Vehicle, *car) as u64);
         }
     }
     blocks
+}
+
+// 16-bit blocks, zero past the last.
+#[derive(Clone, Copy)]
+struct Table<'a> {
+    blocks: &'a [u64],
 }
 
 // The block at a place, 0 past the last.
@@ -62,13 +67,13 @@ fn block_at(blocks: &[u64], i: usize) -> u64
     blocks.get(i).copied().unwrap_or(0)
 }
 
-// Stores 64 16-bit blocks into s from at, zero past the last.
-fn put_table(s: &mut [u8], at: usize, blocks: &[u64])
-    requires { at + 128 ≤ length s.old }
-    ensures { s.new ≡ sets s.old at (table blocks.now) }
-{
-    for i in 0..64 {
-        put(s, at + 2 * i, 2, block_at(blocks, i));
+impl Records<2> for Table<'_> {
+    ghost slot = { λ x k. bytes 2 (slice_index x.blocks.now k) };
+
+    ghost wide = { λ x. length-place x.blocks.now };
+
+    fn put(&self, s: &mut [u8], at: usize, k: usize) {
+        put(s, at, 2, block_at(self.blocks, k));
     }
 }
 
@@ -77,37 +82,28 @@ fn put_tables(s: &mut [u8], queue: &[u64], busy: &[u64])
     requires { 512 ≤ length s.old }
     ensures { s.new ≡ sets s.old 24 (table queue.now ++ (table busy.now ++ bytes 228 0)) }
 {
-    put_table(s, 24, queue);
-    put_table(s, 152, busy);
+    put_records(s, 24, &Table { blocks: queue }, 0, 64);
+    put_records(s, 152, &Table { blocks: busy }, 0, 64);
     put(s, 280, 228, 0);
 }
 
-// Stores the header's block into s.
+// Stores the header's block into s. It is the first block of the buffer that is lent: as an array of 512 bytes it would be lent out of that and
+// written back.
 fn put_header(s: &mut [u8], counts: Counts, queue: &[u64], busy: &[u64])
     requires { 512 ≤ length s.old }
     ensures { s.new ≡ sets s.old 0 (header_block counts.queued counts.busy counts.events counts.sessions counts.used queue.now busy.now) }
 {
-    let f: [u64; 20] = [
-        1,
-        68,
-        1,
-        85,
-        1,
-        77,
-        1,
-        80,
-        2,
-        counts.queued,
-        2,
-        counts.busy,
-        2,
-        counts.events,
-        2,
-        counts.sessions,
-        4,
-        0,
-        8,
-        counts.used,
+    let f: [(usize, u64); 10] = [
+        (1, 68),
+        (1, 85),
+        (1, 77),
+        (1, 80),
+        (2, counts.queued),
+        (2, counts.busy),
+        (2, counts.events),
+        (2, counts.sessions),
+        (4, 0),
+        (8, counts.used),
     ];
     put_fields(s, 0, &f);
     put_tables(s, queue, busy);
@@ -115,9 +111,8 @@ fn put_header(s: &mut [u8], counts: Counts, queue: &[u64], busy: &[u64])
 }
 
 // Stores the header of a state into s.
-pub fn put_state(s: &mut [u8], plan: &[u8], state: &State)
+pub fn put_state(s: &mut [u8], plan: &PlanFile, state: &State)
     requires room { 512 ≤ length s.old }
-    requires plan { 512 ≤ length plan.now }
     requires queue { All Near (waiting state.now.simulation.queue) }
     requires few { length state.now.places.items ≤ 32 }
     requires cars { All NearCar state.now.places.items }

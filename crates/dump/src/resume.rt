@@ -1,9 +1,9 @@
 // A run that continues from a dump: the plan is run again up to the dump's handled count, and no state is trusted from bytes.
+// The calls take plan and dump one by one, as C lends them.
 ghost use Rattle.std.specs.Prelude.{◌≡◌, cond, ◌≤◌, length};
 ghost use Rattle.engine.specs.Demand.{by_events};
 ghost use Rattle.engine.specs.Code.Simulation.{model};
 ghost use Rattle.files.specs.Call.{totals, book_after};
-ghost use Rattle.files.specs.Code.Reading.{Loaded};
 ghost use Rattle.files.specs.Demand.{ReadsBack, UnitsUsed, FreeKnown, NoFreeFits, OneSpot, OneById, AddUp, CountsOfBook, ClosedStay, ExactWaits, Handled, EventsEnd};
 ghost use Rattle.files.specs.HotDay.{HotDayOfRun, BookByRating};
 ghost use Rattle.files.specs.Fleets.{FleetsWithin, FleetsCarried, AsBefore};
@@ -18,6 +18,7 @@ use engine::discrete;
 use engine::discrete::State;
 use engine::site::Site;
 use files::check::read_plan;
+use files::loaded::LoadedPlan;
 use files::stop::stop_events;
 use plan::answer::{Refusal, Totals};
 use plan::bytes::u64_at;
@@ -35,18 +36,17 @@ pub fn is_dump(dump: &[u8], plan: &[u8], site: &Site, state: &State) -> bool
 
 // Continues a plan that was read from its dump.
 fn resume_site(
-    plan: &[u8],
-    site: &Site,
+    read: LoadedPlan<'_>,
     dump: &[u8],
     further: u32,
     book: &mut [u8],
 ) -> Result<Totals, Refusal>
-    requires loaded { Loaded plan.now site.now }
     requires room { 7168 ≤ length book.old }
-    ensures answer { result ≡ cond (is_dump plan.now dump.now) (Ok (totals (by_events (read_plan plan.now) (continued_to dump.now further)))) (Err Refusal.OtherDump) }
-    ensures book { book.new ≡ book_after plan.now 0 (continued_to dump.now further) result book.old }
-    ensures back { ReadsBack plan.now 0 (continued_to dump.now further) book.new result }
+    ensures answer { result ≡ cond (is_dump read.entry.plan.now dump.now) (Ok (totals (by_events (read_plan read.entry.plan.now) (continued_to dump.now further)))) (Err Refusal.OtherDump) }
+    ensures book { book.new ≡ book_after read.entry.plan.now 0 (continued_to dump.now further) result book.old }
+    ensures back { ReadsBack read.entry.plan.now 0 (continued_to dump.now further) book.new result }
 {
+    let LoadedPlan { plan, site } = read;
     if dump.len() < 512 {
         return Err(Refusal::OtherDump);
     }
@@ -93,5 +93,6 @@ pub fn resume(plan: &[u8], dump: &[u8], further: u32, book: &mut [u8]) -> Result
     }
     let mut site = Site::empty();
     read_plan(plan, &mut site)?;
-    resume_site(plan, &site, dump, further, book)
+    let read = LoadedPlan { plan, site: &site };
+    resume_site(read, dump, further, book)
 }

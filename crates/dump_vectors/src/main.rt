@@ -10,13 +10,21 @@ use late_booking::late::book_late;
 use plan::answer::{check_numbers, run_numbers};
 use plan::bytes::put;
 use reading::read_full;
-use recorded::{Record, answer_bytes, digest};
+use recorded::{Record, answer_bytes, digest, replay};
 use std::io;
 
-// Of a call: the record's byte, 0 for dump, 1 for continue and 2 for late booking, its numbers, and the lengths of what is lent.
+// Which call is made. A `match` tells the three, which are lent different buffers.
+#[derive(Clone, Copy)]
+enum Kind {
+    Dump,
+    Continue,
+    BookLate,
+}
+
+// Of a call: which it is, its numbers, and the lengths of what is lent.
 #[derive(Clone, Copy)]
 struct Call {
-    kind: usize,
+    kind: Kind,
     engine: u32,
     units: u32,
     book: usize,
@@ -24,10 +32,21 @@ struct Call {
     plan: usize,
 }
 
+// By the record's byte.
+impl From<usize> for Kind {
+    fn from(byte: usize) -> Self {
+        match byte {
+            0 => Kind::Dump,
+            2 => Kind::BookLate,
+            _ => Kind::Continue,
+        }
+    }
+}
+
 // The call that comes next in the record.
 fn next_call(record: &mut Record) -> Call {
     Call {
-        kind: record.byte(),
+        kind: Kind::from(record.byte()),
         engine: record.u32(),
         units: record.u32(),
         book: record.u32() as usize,
@@ -57,23 +76,24 @@ impl Buffers {
         check_numbers(book_late(plan, dump, car, &mut new[..room]))
     }
 
-    // The numbers of a run that is dumped or continued.
-    fn run(&mut self, c: Call) -> [u64; 11] {
+    // The numbers of a run that is dumped.
+    fn dump(&mut self, c: Call) -> [u64; 11] {
         let plan = &self.plan[..c.plan.min(self.plan.len())];
         let book = &mut self.book[..];
         let dump = &mut self.dump[..];
         let room = c.book.min(book.len());
         let d = c.dump.min(dump.len());
-        if c.kind == 0 {
-            return run_numbers(call::dump(
-                plan,
-                c.engine,
-                c.units,
-                &mut book[..room],
-                &mut dump[..d],
-            ));
-        }
-        run_numbers(resume(plan, &dump[..d], c.units, &mut book[..room]))
+        let ran = call::dump(plan, c.engine, c.units, &mut book[..room], &mut dump[..d]);
+        run_numbers(ran)
+    }
+
+    // The numbers of a run that is continued.
+    fn resume(&mut self, c: Call) -> [u64; 11] {
+        let plan = &self.plan[..c.plan.min(self.plan.len())];
+        let book = &mut self.book[..];
+        let dump = &self.dump[..c.dump.min(self.dump.len())];
+        let room = c.book.min(book.len());
+        run_numbers(resume(plan, dump, c.units, &mut book[..room]))
     }
 
     // Makes the call that comes next in the record, and writes its answer.
@@ -82,10 +102,10 @@ impl Buffers {
         record.change(&mut self.plan);
         record.change(&mut self.dump);
         record.change(&mut self.car);
-        let numbers = if c.kind == 2 {
-            self.book_late(c)
-        } else {
-            self.run(c)
+        let numbers = match c.kind {
+            Kind::Dump => self.dump(c),
+            Kind::Continue => self.resume(c),
+            Kind::BookLate => self.book_late(c),
         };
         rt.write_all(&answer_bytes(numbers, digest(&self.book), digest(&self.dump)))?;
         let mut last = [0u8; 8];
@@ -94,7 +114,9 @@ impl Buffers {
     }
 }
 
-fn replay(rt: &impl Print, record: &mut Record) -> io::Result<()> {
+fn main(rt: HostRuntime) -> io::Result<()> {
+    let mut record = [0u8; 65536];
+    let n = read_full(&mut rt.stdin(), &mut record)?;
     let mut buffers = Buffers {
         plan: [0; 65536],
         book: [0; 7680],
@@ -102,15 +124,5 @@ fn replay(rt: &impl Print, record: &mut Record) -> io::Result<()> {
         car: [0; 1024],
         new: [0; 16640],
     };
-    let calls = record.u32();
-    for _ in 0..calls {
-        buffers.replay_call(rt, record)?;
-    }
-    Ok(())
-}
-
-fn main(rt: HostRuntime) -> io::Result<()> {
-    let mut record = [0u8; 65536];
-    let n = read_full(&mut rt.stdin(), &mut record)?;
-    replay(&rt, &mut Record { rest: &record[..n] })
+    replay(&record[..n], |next| buffers.replay_call(&rt, next))
 }

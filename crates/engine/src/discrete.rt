@@ -1,11 +1,11 @@
 // The event engine (simulation/discrete.rs).
-ghost use Rattle.std.specs.Prelude.{◌≡◌, ℕ, ◌+◌, ◌^◌, ◌<◌, ◌≤◌, false, length, slice_index_or, slice_set};
+ghost use Rattle.std.specs.Prelude.{◌≡◌, ℕ, ◌+◌, ◌^◌, ◌<◌, ◌≤◌, length, slice_set};
 ghost use Rattle.curve.specs.F64.{ceiling};
 ghost use Rattle.charger.specs.Lists.{tick, All};
 ghost use Rattle.charger.specs.Code.Vehicles.{listed};
 ghost use Rattle.engine.specs.Events.{Ordered};
 ghost use Rattle.engine.specs.SiteState.{start_charging, handle, release};
-ghost use Rattle.engine.specs.Discrete.{no_car, is_vacant, charged_session, events, start, run};
+ghost use Rattle.engine.specs.Discrete.{charged_session, events, start, run};
 ghost use Rattle.engine.specs.Demand.{is_arrival};
 ghost use Rattle.engine.specs.Code.Simulation.{pending, plan_of, model, InTime, RunSoFar, Becomes, Admits};
 
@@ -16,7 +16,8 @@ use arrayvec::ArrayVec;
 use curve::float::ceil;
 use curve::units::Seconds;
 
-// Who stands at each charger, by the vehicle's place in the plan, beside the rest of the site's state.
+// Who stands at each charger, by the vehicle's place in the plan, beside the rest of the site's state. What its functions ask of a time, a
+// place and the room left is asked by clause: in the middle of an event it holds with one more or less (`Admits`).
 #[derive(Drop)]
 pub struct State {
     pub simulation: Simulation,
@@ -54,6 +55,8 @@ fn charge(site: &Site, time: u64, v: usize, c: usize) -> Session
     }
 }
 
+// `new`, `stand` and `arrive` are here, and in `plug_in` and `timestep` over another state: a trait for both would carry what each engine promises of its
+// change (`Becomes`, `Changes`) and what it asks for, and say no more than their few lines do.
 impl State {
     // The start of a run: everybody is yet to arrive.
     pub fn new(site: &Site) -> Self
@@ -68,17 +71,6 @@ impl State {
             simulation: Simulation::new(&site.vehicles),
             places,
         }
-    }
-
-    // Which chargers are free.
-    fn free(&self) -> [bool; 32]
-        ensures { (c : ℕ) → c < length self.now.places.items → slice_index_or result c false ≡ is_vacant (slice_index_or self.now.places.items c no_car) }
-    {
-        let mut free = [false; 32];
-        for (c, who) in self.places.iter().enumerate() {
-            free[c] = who.is_none();
-        }
-        free
     }
 
     // A charger that is not there has no place.
@@ -116,7 +108,7 @@ impl State {
         requires places { length self.old.places.items ≡ length site.now.chargers.items }
         ensures { (c : ℕ) → Becomes (handle (plan_of site.now) (events (plan_of site.now)) EventType.Arrival time v c) self.old self.new }
     {
-        match site.free_charger(self.free(), site.vehicles.get_vehicle(v)) {
+        match site.free_charger(|c| self.places[c].is_none(), site.vehicles.get_vehicle(v)) {
             Some(c) => self.plug_in(site, time, v, c),
             None => self.simulation.turn_away(v, &site.vehicles),
         }
@@ -155,7 +147,6 @@ impl State {
 
 // The run goes on from a state that it has reached, by up to `further` events.
 pub fn go_on(site: &Site, state: &mut State, further: u64)
-    requires few { length (listed site.now.vehicles) ≤ 64 }
     requires times { All InTime (listed site.now.vehicles) }
     requires reached { RunSoFar (plan_of site.now) state.old }
     ensures same { model state.new ≡ run (plan_of site.now) (state.old.simulation.events.handled + further) }
@@ -171,7 +162,6 @@ pub fn go_on(site: &Site, state: &mut State, further: u64)
 
 // The run of up to `allowance` events.
 pub fn run(site: &Site, allowance: u64) -> State
-    requires few { length (listed site.now.vehicles) ≤ 64 }
     requires times { All InTime (listed site.now.vehicles) }
     ensures same { model result ≡ run (plan_of site.now) allowance }
     ensures order { Ordered (pending result.simulation.events) }

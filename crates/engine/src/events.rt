@@ -9,15 +9,16 @@ use arrayvec::ArrayVec;
 use charger::vehicle_list::VehicleList;
 use std::marker::Model;
 
-#[derive(Clone, Copy, PartialEq)]
+#[derive(Clone, Copy, PartialEq, Default)]
 pub enum EventType {
+    #[default]
     Arrival,
     Renege,
     Unplug,
 }
 
 // `charger` is 0 where the event is no unplug.
-#[derive(Clone, Copy)]
+#[derive(Clone, Copy, Default)]
 pub struct Event {
     pub time: u64,
     pub kind: EventType,
@@ -25,18 +26,7 @@ pub struct Event {
     pub charger: usize,
 }
 
-impl Default for Event {
-    fn default() -> Self {
-        Event {
-            time: 0,
-            kind: EventType::Arrival,
-            vehicle: 0,
-            charger: 0,
-        }
-    }
-}
-
-// Where its kind stands among the events of one second.
+// Where its kind stands among the events of one second: not by the numbers that a dump has for the kinds, which are those of the cases.
 fn rank(e: Event) -> u64
     ensures { result ≡ rank e.kind }
 {
@@ -163,7 +153,8 @@ fn behind(events: &[Event], e: Event) -> Option<usize>
     events.iter().rev().position(|x| !pops_before(e, *x))
 }
 
-// Puts an event among those that stand in order.
+// Puts an event among those that stand in order, the next to pop first, so that vehicles in the order of their arrivals find their place at
+// the back and move little. `EventQueue::push` would do, and proves, but takes nine times as long for these, and a third longer for drawn ones.
 #[tactic(auto, using(crate::proofs::events::Push::push_back))]
 fn put(events: &mut ArrayVec<Event, 192>, e: Event)
     requires room { length events.old.items < 192 }
@@ -180,6 +171,7 @@ pub fn generate_arrival_events(vehicles: &VehicleList) -> EventQueue
     requires { All InTime (listed vehicles.now) }
     ensures pending { result.pending ≡ generate 0 (listed vehicles.now) [] }
     ensures handled { result.handled ≡ 0 }
+    ensures bound { length result.pending ≤ 128 }
 {
     let mut events = ArrayVec::<Event, 192>::new();
     for (v, x) in vehicles.vehicles.iter().enumerate() {

@@ -1,5 +1,5 @@
 // Cars come and go by steps (simulation/timestep.rs): the events due, plug-ins, closed sessions, freed chargers.
-ghost use Rattle.std.specs.Prelude.{◌≡◌, ℕ, ◌<◌, false, length, slice_index_or, slice_set};
+ghost use Rattle.std.specs.Prelude.{◌≡◌, ◌<◌, false, length, slice_index_or, slice_set};
 ghost use Rattle.charger.specs.Lists.{tick};
 ghost use Rattle.engine.specs.SiteState.{start_charging, handle, release};
 ghost use Rattle.engine.specs.declared.events.EventType.TheVariants.{Arrival};
@@ -19,7 +19,8 @@ use charger::vehicle::Vehicle;
 use curve::units::{Kw, Kwh, Seconds};
 use power::charger_state::{ChargerState, Status};
 
-// What stands at each charger, beside the rest of the site's state.
+// What stands at each charger, beside the rest of the site's state. What a run promises of it, `Running`, is asked by clause: it speaks of
+// the site too, and in the middle of an event there is room for one more.
 #[derive(Drop)]
 pub struct State {
     pub simulation: Simulation,
@@ -102,6 +103,8 @@ fn close_finished(sessions: &mut [Session], time: u64, bank: &[ChargerState])
     }
 }
 
+// A place, `c < length self.old.bank.items`, is asked by clause: it is one of a state that changes, which a type of places would lend.
+// `stand` and `arrive` are here and in `discrete`, and `new` is in `timestep`: see `discrete`.
 impl State {
     fn stand(&mut self, c: usize, s: ChargerState)
         requires { c < length self.old.bank.items }
@@ -125,15 +128,11 @@ impl State {
         self.simulation.sessions.push(started(v, c, time, car));
     }
 
-    // Which chargers are free.
-    fn free(&self) -> [bool; 32]
-        ensures { (c : ℕ) → c < length self.now.bank.items → slice_index_or result c false ≡ is_free (slice_index_or self.now.bank.items c empty).status }
+    fn is_free(&self, c: usize) -> bool
+        requires { c < length self.now.bank.items }
+        ensures { result ≡ is_free (slice_index_or self.now.bank.items c empty).status }
     {
-        let mut free = [false; 32];
-        for (c, s) in self.bank.iter().enumerate() {
-            free[c] = s.status.is_free();
-        }
-        free
+        self.bank[c].status.is_free()
     }
 
     // An arrival takes the first free charger that fits, else it balks or waits.
@@ -142,7 +141,7 @@ impl State {
         requires who { v < 64 }
         ensures { Changes site.now (λ p. handle p (steps p) Arrival time v 0) self.old self.new }
     {
-        match site.free_charger(self.free(), site.vehicles.get_vehicle(v)) {
+        match site.free_charger(|c| self.is_free(c), site.vehicles.get_vehicle(v)) {
             Some(c) => self.start_charging(site, v, c, time),
             None => self.simulation.turn_away(v, &site.vehicles),
         }

@@ -4,8 +4,9 @@ ghost use Rattle.engine.specs.SiteState.{uncharged};
 
 use curve::units::{Kw, Kwh, Seconds};
 
-#[derive(Clone, Copy, PartialEq)]
+#[derive(Clone, Copy, PartialEq, Default)]
 pub enum Outcome {
+    #[default]
     Open,
     Charged,
     Reneged,
@@ -13,7 +14,7 @@ pub enum Outcome {
 }
 
 // Vehicle and charger by their places in the plan; what is missing by its outcome is 0.
-#[derive(Clone, Copy)]
+#[derive(Clone, Copy, Default)]
 pub struct Session {
     pub vehicle: usize,
     pub outcome: Outcome,
@@ -42,11 +43,5 @@ pub fn uncharged(vehicle: usize, outcome: Outcome, wait: u64) -> Session
         idle: Seconds(0.0),
         peak: Kw(0.0),
         energy: Kwh(0.0),
-    }
-}
-
-impl Default for Session {
-    fn default() -> Self {
-        uncharged(0, Outcome::Open, 0)
     }
 }

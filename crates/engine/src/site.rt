@@ -6,12 +6,12 @@ ghost use Rattle.charger.specs.Code.Queue.{waiting};
 ghost use Rattle.charger.specs.Code.Vehicles.{listed};
 ghost use Rattle.engine.specs.Plan.{charger_at, row_at, rated, output};
 ghost use Rattle.engine.specs.SiteState.{balks, turned, withdrawn};
-ghost use Rattle.engine.specs.Code.Simulation.{booked, battery_at, connectors_of, plan_of, takes, FirstBelow, InTime, Starts, Changed};
+ghost use Rattle.engine.specs.Code.Simulation.{booked, battery_at, connectors_of, plan_of, Takes, FirstBelow, InTime, Starts, Changed};
 
 use crate::events::{EventQueue, generate_arrival_events};
 use crate::session::{Outcome, Session, uncharged};
 use arrayvec::ArrayVec;
-use charger::charge_profile_list::profile_curve;
+use charger::charge_profile_list::Profiles;
 use charger::charger::{Charger, no_charger, rated_power};
 use charger::vehicle::{Vehicle, fits};
 use charger::vehicle_list::VehicleList;
@@ -22,7 +22,9 @@ use curve::units::{Kw, Kwh};
 use power::power::Limit;
 
 // What the engines read of a plan: its vehicles, its chargers, the connectors of each in a row, and by profile the battery and the curve.
-// The rows are the array that document 01 names: as many of its first ones count as there are chargers.
+// These stand by the profile's place: a struct of battery and curve would be taken apart by all but `output`. The rows are the array that
+// document 01 names: as many of its first ones count as there are chargers. What the engines ask of the vehicles'
+// times is asked by clause: a site is read, and its rated powers and durations found, without it.
 #[derive(Drop)]
 pub struct Site {
     pub vehicles: VehicleList,
@@ -54,6 +56,7 @@ impl Site {
         }
     }
 
+    // An element, or what stands for none, three times: what stands for none differs, and the rules name each.
     // A charger's row; past the last there is no connector.
     pub fn row(&self, c: usize) -> [bool; 5]
         ensures { result ≡ row_at (connectors_of self.now) c }
@@ -69,19 +72,24 @@ impl Site {
     pub fn charger(&self, c: usize) -> Charger
         ensures { result ≡ charger_at self.now.chargers.items c }
     {
-        match self.chargers.get(c) {
-            Some(charger) => *charger,
-            None => no_charger(),
-        }
+        self.chargers.get(c).copied().unwrap_or(no_charger())
     }
 
     // A profile's battery; past the last, none.
     pub fn battery(&self, profile: usize) -> Kwh
         ensures { result ≡ battery_at self.now.batteries profile }
     {
-        match self.batteries.get(profile) {
-            Some(battery) => *battery,
-            None => Kwh(0.0),
+        self.batteries.get(profile).copied().unwrap_or(Kwh(0.0))
+    }
+
+    // The curves of its profiles.
+    pub fn profiles(&self) -> Profiles<'_>
+        ensures points { result.points.now ≡ self.now.curves }
+        ensures lens { result.lens.now ≡ self.now.lens }
+    {
+        Profiles {
+            points: &self.curves,
+            lens: &self.lens,
         }
     }
 
@@ -100,7 +108,7 @@ impl Site {
     {
         let vehicle = self.vehicles.get_vehicle(v);
         integrate_over(
-            profile_curve(&self.curves, &self.lens, vehicle.profile),
+            self.profiles().curve(vehicle.profile),
             self.battery(vehicle.profile),
             vehicle.start,
             vehicle.target,
@@ -108,12 +116,13 @@ impl Site {
         )
     }
 
-    // The first free charger that fits.
-    pub fn free_charger(&self, free: [bool; 32], vehicle: Vehicle) -> Option<usize>
-        ensures { FirstBelow (takes free (connectors_of self.now) vehicle) (length self.now.chargers.items) result }
+    // The first free charger that fits; `free` answers which ones are free.
+    pub fn free_charger<F: Fn(usize) -> bool>(&self, free: F, vehicle: Vehicle) -> Option<usize>
+        requires { (c : ℕ) → c < length self.now.chargers.items → F.pre free c }
+        ensures { FirstBelow (Takes (F.post free) (connectors_of self.now) vehicle) (length self.now.chargers.items) result }
     {
         for c in 0..self.chargers.len() {
-            if free[c] && fits(self.row(c), vehicle) {
+            if free(c) && fits(self.row(c), vehicle) {
                 return Some(c);
             }
         }

@@ -8,7 +8,7 @@ ghost use Rattle.engine.specs.Events.{Ordered};
 ghost use Rattle.engine.specs.SiteState.{is_empty};
 ghost use Rattle.charger.specs.Code.Profiles.{curve_at};
 ghost use Rattle.power.specs.ChargerState.{is_free, all_free};
-ghost use Rattle.power.specs.Code.Bank.{Rising, spun};
+ghost use Rattle.power.specs.Code.Bank.{spun};
 ghost use Rattle.power.specs.Code.Rounds.{spin};
 ghost use Rattle.engine.specs.Code.Simulation.{pending, plan_of, InTime};
 ghost use Rattle.engine.specs.Timestep.{ended, start, run};
@@ -16,6 +16,7 @@ ghost use Rattle.engine.specs.Code.Events.{is_due, next_time};
 ghost use Rattle.engine.specs.Code.Steps.{Running, SiteWithin, step_state, GoesOn, RoundsDone, RunDone};
 
 use crate::plug_in::State;
+use crate::rising_site::RisingSite;
 use crate::site::{Simulation, Site};
 use arrayvec::ArrayVec;
 use power::charger_state::ChargerState;
@@ -26,7 +27,6 @@ impl State {
     // The start of a run: no car at any charger.
     fn new(site: &Site) -> Self
         requires plan { SiteWithin site.now }
-        requires few { length (listed site.now.vehicles) ≤ 64 }
         requires times { All InTime (listed site.now.vehicles) }
         ensures start { step_state result 0 ≡ start (plan_of site.now) }
         ensures fit { Running site.now 0 result }
@@ -65,46 +65,43 @@ impl State {
     }
 
     // Rounds of power and progress, up to `count` of them, or to the first in which a charger is finished.
-    fn charge(&mut self, site: &Site, count: u64) -> Spun
-        requires { Rising site.now.curves site.now.lens }
-        ensures spun { spun self.new.bank.items result ≡ spin site.now.limit (curve_at site.now.curves site.now.lens) 0 count self.old.bank.items }
+    fn charge(&mut self, rising: RisingSite<'_>, count: u64) -> Spun
+        ensures spun { spun self.new.bank.items result ≡ spin rising.entry.site.now.limit (curve_at rising.entry.site.now.curves rising.entry.site.now.lens) 0 count self.old.bank.items }
         ensures rest { self.new.simulation ≡ self.old.simulation }
     {
         let bank = self.bank.as_mut_slice();
-        charge_until(bank, &site.curves, &site.lens, site.limit, count)
+        charge_until(bank, rising.profiles(), rising.site.limit, count)
     }
 
     // With no event due: rounds up to the next event, to the end at `last`, or to the first in which a charger is finished.
-    fn spin(&mut self, site: &Site, time: u64, last: u64) -> u64
-        requires fit { Running site.now 0 self.old }
+    fn spin(&mut self, rising: RisingSite<'_>, time: u64, last: u64) -> u64
+        requires fit { Running rising.site.now 0 self.old }
         requires before { time < last }
         requires none { is_due time (pending self.old.simulation.events) ≡ false }
-        requires going { ended (plan_of site.now) (step_state self.old time) ≡ false }
-        requires rising { Rising site.now.curves site.now.lens }
-        ensures { GoesOn site.now last time self.old result self.new }
+        requires going { ended (plan_of rising.site.now) (step_state self.old time) ≡ false }
+        ensures { GoesOn rising.entry.site.now last time self.old result self.new }
     {
         let next = self.next_time(last);
-        let spun = self.charge(site, next - time);
+        let spun = self.charge(rising, next - time);
         let then = time + spun.rounds;
         if spun.any {
-            self.free_finished(site, then - 1);
+            self.free_finished(rising.site, then - 1);
         }
         then
     }
 
     // The events due, and the rounds behind them. The round counts even where nothing is left to come behind its events.
-    fn turn(&mut self, site: &Site, time: u64, last: u64) -> u64
-        requires fit { Running site.now 0 self.old }
+    fn turn(&mut self, rising: RisingSite<'_>, time: u64, last: u64) -> u64
+        requires fit { Running rising.site.now 0 self.old }
         requires before { time < last }
-        requires going { ended (plan_of site.now) (step_state self.old time) ≡ false }
-        requires rising { Rising site.now.curves site.now.lens }
-        ensures { GoesOn site.now last time self.old result self.new }
+        requires going { ended (plan_of rising.site.now) (step_state self.old time) ≡ false }
+        ensures { GoesOn rising.entry.site.now last time self.old result self.new }
     {
-        self.handle_due(site, time);
+        self.handle_due(rising.site, time);
         if self.is_ended() {
             return time + 1;
         }
-        self.spin(site, time, last)
+        self.spin(rising, time, last)
     }
 }
 
@@ -117,11 +114,10 @@ pub struct StepRun {
 }
 
 // Up to `count` rounds more.
-pub fn rounds(site: &Site, run: &mut StepRun, count: u64)
-    requires fit { Running site.now 0 run.old.state }
+pub fn rounds(rising: RisingSite<'_>, run: &mut StepRun, count: u64)
+    requires fit { Running rising.site.now 0 run.old.state }
     requires times { run.old.time + count < 18446744073709551616 }
-    requires rising { Rising site.now.curves site.now.lens }
-    ensures { RoundsDone site.now count run.old run.new }
+    ensures { RoundsDone rising.entry.site.now count run.old run.new }
 {
     let last = run.time + count;
     while run.time < last {
@@ -129,26 +125,24 @@ pub fn rounds(site: &Site, run: &mut StepRun, count: u64)
             run.ended = true;
             return;
         }
-        run.time = run.state.turn(site, run.time, last);
+        run.time = run.state.turn(rising, run.time, last);
     }
     run.ended = run.state.is_ended();
 }
 
 // A run by steps, of up to `allowance` rounds from time 0.
-pub fn run(site: &Site, allowance: u64) -> StepRun
-    requires plan { SiteWithin site.now }
-    requires few { length (listed site.now.vehicles) ≤ 64 }
-    requires times { All InTime (listed site.now.vehicles) }
+pub fn run(rising: RisingSite<'_>, allowance: u64) -> StepRun
+    requires plan { SiteWithin rising.site.now }
+    requires times { All InTime (listed rising.site.now.vehicles) }
     requires limit { allowance ≤ 10000000 }
-    requires rising { Rising site.now.curves site.now.lens }
-    ensures done { RunDone site.now allowance result }
+    ensures done { RunDone rising.entry.site.now allowance result }
     ensures order { Ordered (pending result.state.simulation.events) }
 {
     let mut run = StepRun {
-        state: State::new(site),
+        state: State::new(rising.site),
         time: 0,
         ended: false,
     };
-    rounds(site, &mut run, allowance);
+    rounds(rising, &mut run, allowance);
     run
 }

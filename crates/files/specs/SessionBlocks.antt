@@ -1,5 +1,5 @@
 -- Rules. Blocks of sessions, five 96-byte sessions a block, from any place of a file on.
-use Rattle.std.specs.Prelude.{ℕ, zero, suc, ◌+◌, ◌*◌, ◌/◌, ◌%◌, List, [], ◌∷◌, ◌++◌, length, get_or, drop}
+use Rattle.std.specs.Prelude.{◌≡◌, refl, ℕ, zero, suc, ◌+◌, ◌*◌, ◌/◌, ◌%◌, List, [], ◌∷◌, ◌++◌, length, get_or, drop}
 use Rattle.plan.specs.Bytes.{le_at, bytes, fields, pieces}
 use Rattle.plan.specs.Blocks.{sealed}
 use Rattle.files.specs.declared.book_session.BookSession.{BookSession}
@@ -17,6 +17,10 @@ session_bytes x =
 -- the bytes of the session at the index k, zero past the last one
 unfoldable pub slot : List BookSession → ℕ → List ℕ
 slot xs k = session_bytes (get_or xs k no_session)
+
+pub length-slot : (xs : List BookSession) (k : ℕ) → length (slot xs k) ≡ 96
+unfolding slot session_bytes fields bytes
+length-slot xs k = refl
 
 -- the block of the sessions 5 j to 5 j + 4, where the first block of sessions is the place-th of its file
 unfoldable pub session_block : ℕ → List BookSession → ℕ → List ℕ

@@ -4,17 +4,16 @@ ghost use Rattle.charger.specs.Lists.{All};
 ghost use Rattle.charger.specs.Vehicle.{connector_of};
 ghost use Rattle.charger.specs.Code.Vehicles.{listed};
 ghost use Rattle.engine.specs.Code.Simulation.{connectors_of};
-ghost use Rattle.files.specs.Code.Reading.{Counted};
-ghost use Rattle.engine.specs.Demand.{outcome_number};
-ghost use Rattle.files.specs.BookSession.{plugged as BookSession·plugged, charged as BookSession·charged, kept as BookSession·kept, bits, code_of, vehicle_number, charger_id, entry as BookSession·entry, no_session, Fits};
+ghost use Rattle.files.specs.BookSession.{plugged as BookSession·plugged, charged as BookSession·charged, kept as BookSession·kept, code_of, vehicle_number, charger_id, entry as BookSession·entry, Fits};
 
+use crate::counted::CountedPlan;
 use arrayvec::ArrayVec;
 use charger::vehicle::{Vehicle, connector_of};
 use curve::float::to_bits;
-use engine::session::{Outcome, Session};
+use engine::session::Session;
 use engine::site::Site;
 use plan::bytes::u32_at;
-use plan::places::{Kind, block_of, charger_count, vehicle_count};
+use plan::places::Kind;
 
 // A session as the book holds it, floats by their bits; what is missing by its outcome is 0. A book that is read may hold any byte for an
 // outcome, so it stands by its number.
@@ -38,13 +37,6 @@ pub struct BookSession {
     pub end: u64,
 }
 
-// The paper's number of an outcome.
-pub fn outcome_number(outcome: Outcome) -> u8
-    ensures { result ≡ outcome_number outcome }
-{
-    outcome as u8
-}
-
 // A session of that outcome's number has a charger.
 pub fn plugged(outcome: u8) -> bool
     ensures { result ≡ BookSession·plugged outcome }
@@ -66,36 +58,28 @@ fn kept(there: bool, x: u64) -> u64
     if there { x } else { 0 }
 }
 
-// The bits of a float, 0 where it is missing.
-fn kept_bits(there: bool, x: f64) -> u64
-    ensures { result ≡ BookSession·kept there (bits x) }
-{
-    if there { to_bits(x) } else { 0 }
-}
-
 // A number of a vehicle's block: its id at 0, its profile's id at 4.
 #[tactic(auto, unfolding(crate::specs::BookSession::vehicle_number))]
-fn vehicle_number(plan: &[u8], v: usize, at: usize) -> u32
-    requires { Counted plan.now × (at + 4 ≤ 512) }
-    ensures { result ≡ vehicle_number plan.now v at }
+fn vehicle_number(plan: &CountedPlan, v: usize, at: usize) -> u32
+    requires { at + 4 ≤ 512 }
+    ensures { result ≡ vehicle_number plan.now.file v at }
 {
-    if v < vehicle_count(plan) {
-        return u32_at(block_of(plan, Kind::Vehicle, v), at);
+    if v < plan.file.vehicle_count() {
+        return u32_at(plan.file.block_of(Kind::Vehicle, v), at);
     }
     0
 }
 
 // The id of the charger that the session has.
 #[tactic(auto, unfolding(crate::specs::BookSession::charger_id))]
-fn charger_id(plan: &[u8], there: bool, c: usize) -> u32
-    requires { Counted plan.now }
-    ensures { result ≡ BookSession·kept there (charger_id plan.now c) }
+fn charger_id(plan: &CountedPlan, there: bool, c: usize) -> u32
+    ensures { result ≡ BookSession·kept there (charger_id plan.now.file c) }
 {
     if !there {
         return 0;
     }
-    if c < charger_count(plan) {
-        return u32_at(block_of(plan, Kind::Charger, c), 0);
+    if c < plan.file.charger_count() {
+        return u32_at(plan.file.block_of(Kind::Charger, c), 0);
     }
     0
 }
@@ -111,11 +95,10 @@ fn connector_code(there: bool, row: [bool; 5], vehicle: Vehicle) -> u8
 }
 
 // What the book says of a session.
-fn entry(plan: &[u8], site: &Site, x: &Session) -> BookSession
-    requires { Counted plan.now }
-    ensures { result ≡ BookSession·entry plan.now (listed site.now.vehicles) (connectors_of site.now) x.now }
+fn entry(plan: &CountedPlan, site: &Site, x: &Session) -> BookSession
+    ensures { result ≡ BookSession·entry plan.now.file (listed site.now.vehicles) (connectors_of site.now) x.now }
 {
-    let outcome = outcome_number(x.outcome);
+    let outcome = x.outcome as u8;
     let there = plugged(outcome);
     let done = charged(outcome);
     let vehicle = site.vehicles.get_vehicle(x.vehicle);
@@ -130,27 +113,19 @@ fn entry(plan: &[u8], site: &Site, x: &Session) -> BookSession
         plugin: kept(there, x.plugin),
         unplug: kept(done, x.unplug),
         wait: x.wait,
-        duration: kept_bits(done, x.duration.0),
-        idle: kept_bits(there, vehicle.idle.0),
-        peak: kept_bits(done, x.peak.0),
-        energy: kept_bits(done, x.energy.0),
+        duration: kept(done, to_bits(x.duration.0)),
+        idle: kept(there, to_bits(vehicle.idle.0)),
+        peak: kept(done, to_bits(x.peak.0)),
+        energy: kept(done, to_bits(x.energy.0)),
         start: to_bits(vehicle.start),
-        end: kept_bits(there, vehicle.target),
+        end: kept(there, to_bits(vehicle.target)),
     }
 }
 
-#[tactic(auto, unfolding(crate::specs::BookSession::no_session))]
-pub fn no_session() -> BookSession
-    ensures { result ≡ no_session }
-{
-    BookSession::default()
-}
-
-// What the book says of all sessions.
-pub fn entries(plan: &[u8], site: &Site, sessions: &[Session]) -> ArrayVec<BookSession, 64>
-    requires counted { Counted plan.now }
+// What the book says of all sessions. A slice carries no bound, so a clause asks that they are few.
+pub fn entries(plan: &CountedPlan, site: &Site, sessions: &[Session]) -> ArrayVec<BookSession, 64>
     requires few { length sessions.now ≤ 64 }
-    ensures entries { result.items ≡ map (BookSession·entry plan.now (listed site.now.vehicles) (connectors_of site.now)) sessions.now }
+    ensures entries { result.items ≡ map (BookSession·entry plan.now.file (listed site.now.vehicles) (connectors_of site.now)) sessions.now }
     ensures fit { All Fits result.items }
 {
     let mut all = ArrayVec::new();

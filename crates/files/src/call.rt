@@ -1,8 +1,7 @@
-// The two calls: check a plan, and run it by either engine under an allowance.
+// The two calls: check a plan, and run it by either engine under an allowance. They take what C lends, one by one.
 ghost use Rattle.std.specs.Prelude.{◌≡◌, ◌≤◌, length};
 ghost use Rattle.files.specs.Check.{check_plan, AllSealed};
-ghost use Rattle.files.specs.Code.Reading.{Loaded};
-ghost use Rattle.files.specs.Code.Running.{Stopped};
+ghost use Rattle.files.specs.Code.Running.{engine_number, Stopped};
 ghost use Rattle.files.specs.Read.{read_plan};
 ghost use Rattle.files.specs.Call.{stop_of, answer_of, book_after};
 ghost use Rattle.files.specs.Demand.{ReadsBack, UnitsUsed, FreeKnown, NoFreeFits, OneSpot, OneById, AddUp, CountsOfBook, ClosedStay, ExactWaits, Handled, EventsEnd, StepsEnd};
@@ -10,26 +9,32 @@ ghost use Rattle.files.specs.HotDay.{HotDayOfPlan, HotDayOfRun, BookByRating};
 ghost use Rattle.files.specs.Fleets.{FleetsWithin, FleetsCarried, AsBefore};
 
 use crate::check::{check_plan, read_plan};
+use crate::engines::Engine;
+use crate::loaded::LoadedPlan;
 use crate::stop::{stop_events, stop_steps};
+use engine::rising_site::RisingSite;
 use engine::site::Site;
 use engine::{discrete, timestep};
 use plan::answer::{Refusal, Totals};
 
 // Runs a plan that was read, and writes its book.
-fn run_site(plan: &[u8], site: &Site, engine: u32, allowance: u32, book: &mut [u8]) -> Totals
-    requires loaded { Loaded plan.now site.now }
-    requires engine { engine ≤ 1 }
+fn run_site(read: LoadedPlan<'_>, engine: Engine, allowance: u32, book: &mut [u8]) -> Totals
     requires allowance { allowance ≤ 10000000 }
     requires room { 7168 ≤ length book.old }
-    ensures { Stopped plan.now engine (stop_of (read_plan plan.now) engine allowance) book.old result book.new }
+    ensures { Stopped read.entry.plan.now (engine_number engine) (stop_of (read_plan read.entry.plan.now) (engine_number engine) allowance) book.old result book.new }
 {
+    let LoadedPlan { plan, site } = read;
     let allowance = u64::from(allowance);
-    if engine == 0 {
-        let state = discrete::run(site, allowance);
-        return stop_events(book, plan, site, &state);
+    match engine {
+        Engine::Events => {
+            let state = discrete::run(site, allowance);
+            stop_events(book, plan, site, &state)
+        }
+        Engine::Steps => {
+            let run = timestep::run(RisingSite { site }, allowance);
+            stop_steps(book, plan, site, &run)
+        }
     }
-    let run = timestep::run(site, allowance);
-    stop_steps(book, plan, site, &run)
 }
 
 // Checks a plan.
@@ -64,9 +69,7 @@ pub fn run(plan: &[u8], engine: u32, allowance: u32, book: &mut [u8]) -> Result<
     ensures carried { FleetsCarried plan.now book.new result }
     ensures no_fleets { AsBefore plan.now result }
 {
-    if 1 < engine {
-        return Err(Refusal::EngineAbove);
-    }
+    let engine = Engine::try_from(engine)?;
     if 10_000_000 < allowance {
         return Err(Refusal::AllowanceAbove);
     }
@@ -75,5 +78,6 @@ pub fn run(plan: &[u8], engine: u32, allowance: u32, book: &mut [u8]) -> Result<
     }
     let mut site = Site::empty();
     read_plan(plan, &mut site)?;
-    Ok(run_site(plan, &site, engine, allowance, book))
+    let read = LoadedPlan { plan, site: &site };
+    Ok(run_site(read, engine, allowance, book))
 }

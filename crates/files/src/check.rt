@@ -1,29 +1,30 @@
 // A check of a plan: the refusals 4 to 12.
 ghost use Rattle.std.specs.Prelude.{◌≡◌};
 ghost use Rattle.engine.specs.Code.Simulation.{plan_of};
-ghost use Rattle.files.specs.Code.Reading.{Admitted, Counted, Reads};
+ghost use Rattle.files.specs.Code.Reading.{Admitted, Reads};
 ghost use Rattle.files.specs.Read.{read_plan};
 ghost use Rattle.files.specs.Pairs.{failing_pair};
 ghost use Rattle.files.specs.Check.{pair_answer, check_plan};
 
+use crate::counted::CountedPlan;
 use crate::pairs::failing_pair;
 use crate::read::read_site;
 use engine::site::Site;
 use plan::answer::Refusal;
-use plan::places::{Kind, place_of};
+use plan::places::{Kind, PlanFile};
 use plan::plan::check_blocks;
 
 // What a plan's failing pair means: its blocks cannot charge.
-pub fn pair_answer(plan: &[u8], pair: Option<(usize, usize)>) -> Result<(), Refusal>
-    requires { Counted plan.now × (pair ≡ failing_pair (read_plan plan.now)) }
-    ensures { result ≡ pair_answer plan.now pair }
+pub fn pair_answer(plan: &CountedPlan, pair: Option<(usize, usize)>) -> Result<(), Refusal>
+    requires { pair ≡ failing_pair (read_plan plan.now.file) }
+    ensures { result ≡ pair_answer plan.now.file pair }
 {
     match pair {
         None => Ok(()),
         Some((v, c)) => {
             Err(Refusal::CannotCharge(
-                place_of(plan, Kind::Vehicle, v),
-                place_of(plan, Kind::Charger, c),
+                plan.file.place_of(Kind::Vehicle, v),
+                plan.file.place_of(Kind::Charger, c),
             ))
         }
     }
@@ -35,8 +36,11 @@ pub fn read_plan(plan: &[u8], site: &mut Site) -> Result<(), Refusal>
     ensures site { Admitted plan.now → plan_of site.new ≡ read_plan plan.now }
 {
     check_blocks(plan)?;
-    read_site(site, plan);
-    pair_answer(plan, failing_pair(site))
+    let plan = CountedPlan {
+        file: PlanFile { bytes: plan },
+    };
+    read_site(site, &plan);
+    pair_answer(&plan, failing_pair(site))
 }
 
 // What a check of a plan answers.

@@ -5,9 +5,9 @@ ghost use Rattle.charger.specs.Code.Profiles.{curve_at};
 ghost use Rattle.engine.specs.Code.Simulation.{battery_at, plan_of};
 ghost use Rattle.plan.specs.Search.{each};
 ghost use Rattle.plan.specs.Places.{charger_count};
-ghost use Rattle.files.specs.Code.Reading.{Counted};
 ghost use Rattle.files.specs.Read.{point_at, curve_of_profile, battery_of, codes_at, caps_of, charger_of, row_of_charger, chargers_of, connector_rows, profile_index, vehicle_of, vehicles_of, queue_places_of, limit_of, read_plan};
 
+use crate::counted::CountedPlan;
 use arrayvec::ArrayVec;
 use charger::charger::Charger;
 use charger::connector::{connector_row, connectors_of};
@@ -20,10 +20,10 @@ use engine::site::Site;
 use plan::bytes::{u8_at, u16_at, u32_at, u64_at};
 use plan::fields::{f64_at, point_count};
 use plan::ids::with_id;
-use plan::places::{Kind, block_of, charger_count, profile_count, start_of, vehicle_count};
+use plan::places::{Kind, PlanFile};
 use power::power::Limit;
 
-// Stores the first n points of a profile's block.
+// Stores the first n points of a profile's block. Bounds on a number of points are asked by clause, as in `fields`.
 fn store_points(points: &mut [Point], b: &[u8; 512], n: usize)
     requires { (n ≤ 30) × (n ≤ length points.old) }
     ensures { take n points.new ≡ each (point_at b.now) 0 n }
@@ -37,12 +37,12 @@ fn store_points(points: &mut [Point], b: &[u8; 512], n: usize)
 }
 
 // Makes the curve of the profile at the place k, and gives how many points it has; past the last profile none.
-fn read_curve(curve: &mut [Point], plan: &[u8], k: usize) -> usize
-    requires { (length curve.old ≡ 32) × Counted plan.now }
-    ensures { (take result curve.new ≡ curve_of_profile plan.now k) × (result ≤ 32) }
+fn read_curve(curve: &mut [Point], plan: &CountedPlan, k: usize) -> usize
+    requires { length curve.old ≡ 32 }
+    ensures { (take result curve.new ≡ curve_of_profile plan.now.file k) × (result ≤ 32) }
 {
-    if k < profile_count(plan) {
-        let b = block_of(plan, Kind::Profile, k);
+    if k < plan.file.profile_count() {
+        let b = plan.file.block_of(Kind::Profile, k);
         let n = point_count(b);
         store_points(curve, b, n);
         return sort::new(curve, n);
@@ -51,9 +51,9 @@ fn read_curve(curve: &mut [Point], plan: &[u8], k: usize) -> usize
 }
 
 // Puts every profile's curve into the table.
-pub fn read_curves(curves: &mut [Point], lens: &mut [u8], plan: &[u8])
-    requires { (length curves.old ≡ 512) × ((length lens.old ≡ 16) × Counted plan.now) }
-    ensures { (k : ℕ) → curve_at curves.new lens.new k ≡ curve_of_profile plan.now k }
+pub fn read_curves(curves: &mut [Point], lens: &mut [u8], plan: &CountedPlan)
+    requires { (length curves.old ≡ 512) × (length lens.old ≡ 16) }
+    ensures { (k : ℕ) → curve_at curves.new lens.new k ≡ curve_of_profile plan.now.file k }
 {
     for k in 0..16 {
         let start = 32 * k;
@@ -63,20 +63,18 @@ pub fn read_curves(curves: &mut [Point], lens: &mut [u8], plan: &[u8])
 }
 
 // The battery of the profile at the place k; past the last profile an empty one.
-fn read_battery(plan: &[u8], k: usize) -> Kwh
-    requires { Counted plan.now }
-    ensures { result ≡ battery_of plan.now k }
+fn read_battery(plan: &CountedPlan, k: usize) -> Kwh
+    ensures { result ≡ battery_of plan.now.file k }
 {
-    if k < profile_count(plan) {
-        return Kwh(f64_at(block_of(plan, Kind::Profile, k), 8));
+    if k < plan.file.profile_count() {
+        return Kwh(f64_at(plan.file.block_of(Kind::Profile, k), 8));
     }
     Kwh(0.0)
 }
 
 // The batteries of the profiles.
-pub fn read_batteries(plan: &[u8]) -> [Kwh; 16]
-    requires { Counted plan.now }
-    ensures { (k : ℕ) → battery_at result k ≡ battery_of plan.now k }
+pub fn read_batteries(plan: &CountedPlan) -> [Kwh; 16]
+    ensures { (k : ℕ) → battery_at result k ≡ battery_of plan.now.file k }
 {
     let mut all = [Kwh(0.0); 16];
     for k in 0..16 {
@@ -90,7 +88,7 @@ fn codes_at(b: &[u8], at: usize) -> [u8; 5]
     requires { at + 5 ≤ length b.now }
     ensures { result ≡ codes_at b.now at }
 {
-    [b[at], b[at + 1], b[at + 2], b[at + 3], b[at + 4]]
+    *b[at..].first_chunk().unwrap()
 }
 
 // The caps of a charger's leads, by connector code from 1.
@@ -118,13 +116,12 @@ fn read_charger(b: &[u8; 512]) -> Charger
 }
 
 // The chargers of the plan.
-pub fn read_chargers(chargers: &mut ArrayVec<Charger, 32>, plan: &[u8])
-    requires { Counted plan.now }
-    ensures { chargers.new.items ≡ chargers_of plan.now }
+pub fn read_chargers(chargers: &mut ArrayVec<Charger, 32>, plan: &CountedPlan)
+    ensures { chargers.new.items ≡ chargers_of plan.now.file }
 {
     chargers.clear();
-    for c in 0..charger_count(plan) {
-        chargers.push(read_charger(block_of(plan, Kind::Charger, c)));
+    for c in 0..plan.file.charger_count() {
+        chargers.push(read_charger(plan.file.block_of(Kind::Charger, c)));
     }
 }
 
@@ -135,25 +132,24 @@ fn read_row(b: &[u8; 512]) -> [bool; 5]
     connector_row(codes_at(b, 5), u8_at(b, 4))
 }
 
-// Which charger has which connector: a row for each charger.
-pub fn read_connectors(plan: &[u8]) -> [[bool; 5]; 32]
-    requires { Counted plan.now }
-    ensures { take (charger_count plan.now) result ≡ connector_rows plan.now }
+// Which charger has which connector: a row for each charger, in the array that document 01 names.
+pub fn read_connectors(plan: &CountedPlan) -> [[bool; 5]; 32]
+    ensures { take (charger_count plan.now.file) result ≡ connector_rows plan.now.file }
 {
     let mut rows = [[false; 5]; 32];
-    for c in 0..charger_count(plan) {
-        rows[c] = read_row(block_of(plan, Kind::Charger, c));
+    for c in 0..plan.file.charger_count() {
+        rows[c] = read_row(plan.file.block_of(Kind::Charger, c));
     }
     rows
 }
 
-// The place of the first profile with the id; past the last where none has it.
-fn profile_index(plan: &[u8], id: u32) -> usize
-    requires { Counted plan.now }
-    ensures { result ≡ profile_index plan.now id }
+// The place of the first profile with the id; past the last where none has it, since the model knows a profile that is missing by that place.
+fn profile_index(plan: &CountedPlan, id: u32) -> usize
+    ensures { result ≡ profile_index plan.now.file id }
 {
-    let end = start_of(plan, Kind::Charger);
-    with_id(plan, 1, end, id).unwrap_or(end) - 1
+    let file = &plan.file;
+    let end = file.start_of(Kind::Charger);
+    with_id(file.bytes, 1, end, id).unwrap_or(end) - 1
 }
 
 // The vehicle of a block, whose profile has the place.
@@ -178,27 +174,21 @@ fn read_vehicle(b: &[u8; 512], profile: usize) -> Vehicle
 }
 
 // The queue places of the fleets.
-fn read_queue_places(plan: &[u8]) -> [u8; 64]
-    requires { 512 ≤ length plan.now }
+fn read_queue_places(plan: &PlanFile) -> [u8; 64]
     ensures { result ≡ queue_places_of plan.now }
 {
-    let mut places = [0u8; 64];
-    for k in 0..64 {
-        places[k] = plan[24 + k];
-    }
-    places
+    *plan.bytes[24..].first_chunk().unwrap()
 }
 
 // The vehicles of the plan, with the queue places of their fleets.
-pub fn read_vehicles(list: &mut VehicleList, plan: &[u8])
-    requires { Counted plan.now }
-    ensures vehicles { listed list.new ≡ vehicles_of plan.now }
-    ensures places { list.new.queue_places ≡ queue_places_of plan.now }
+pub fn read_vehicles(list: &mut VehicleList, plan: &CountedPlan)
+    ensures vehicles { listed list.new ≡ vehicles_of plan.now.file }
+    ensures places { list.new.queue_places ≡ queue_places_of plan.now.file }
 {
-    list.queue_places = read_queue_places(plan);
+    list.queue_places = read_queue_places(&plan.file);
     list.vehicles.clear();
-    for v in 0..vehicle_count(plan) {
-        let b = block_of(plan, Kind::Vehicle, v);
+    for v in 0..plan.file.vehicle_count() {
+        let b = plan.file.block_of(Kind::Vehicle, v);
         let x = read_vehicle(b, profile_index(plan, u32_at(b, 4)));
         list.vehicles.push(x);
     }
@@ -206,25 +196,23 @@ pub fn read_vehicles(list: &mut VehicleList, plan: &[u8])
 
 // The site limit, if there is one.
 #[tactic(auto, unfolding(crate::specs::Read::limit_of))]
-pub fn read_limit(plan: &[u8]) -> Limit
-    requires { 512 ≤ length plan.now }
+pub fn read_limit(plan: &PlanFile) -> Limit
     ensures { result ≡ limit_of plan.now }
 {
-    if u8_at(plan, 12) == 1 {
-        return Limit::AtMost(Kw(f64_at(plan, 16)));
+    if u8_at(plan.bytes, 12) == 1 {
+        return Limit::AtMost(Kw(f64_at(plan.bytes, 16)));
     }
     Limit::Unlimited
 }
 
 // The site of a plan, in the place of what stood there: a site is too large to be handed on by value.
-pub fn read_site(site: &mut Site, plan: &[u8])
-    requires { Counted plan.now }
-    ensures { plan_of site.new ≡ read_plan plan.now }
+pub fn read_site(site: &mut Site, plan: &CountedPlan)
+    ensures { plan_of site.new ≡ read_plan plan.now.file }
 {
     read_vehicles(&mut site.vehicles, plan);
     read_chargers(&mut site.chargers, plan);
     site.rows = read_connectors(plan);
     site.batteries = read_batteries(plan);
     read_curves(&mut site.curves, &mut site.lens, plan);
-    site.limit = read_limit(plan);
+    site.limit = read_limit(&plan.file);
 }

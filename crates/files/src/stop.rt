@@ -2,6 +2,7 @@
 ghost use Rattle.std.specs.Prelude.{◌≡◌, ℕ};
 ghost use Rattle.charger.specs.Lists.{tick};
 ghost use Rattle.charger.specs.Code.Queue.{waiting};
+ghost use Rattle.engine.specs.Plan.{Plan};
 ghost use Rattle.engine.specs.Discrete.{run};
 ghost use Rattle.engine.specs.Demand.{by_events, by_steps};
 ghost use Rattle.engine.specs.Code.Simulation.{plan_of, pending, booked, model};
@@ -39,10 +40,10 @@ pub fn write_run(
     count_up(simulation, used, ended)
 }
 
-// The same of a run by events.
+// The same of a run by events, whatever plan it ran.
 pub fn stop_events(book: &mut [u8], plan: &[u8], site: &Site, state: &State) -> Totals
     requires { Writable plan.now site.now (booked state.now.simulation.sessions) book.old }
-    ensures { (n : ℕ) → model state.now ≡ run (plan_of site.now) n → Stopped plan.now 0 (by_events (plan_of site.now) n) book.old result book.new }
+    ensures { (p : Plan) (n : ℕ) → model state.now ≡ run p n → Stopped plan.now 0 (by_events p n) book.old result book.new }
 {
     let simulation = &state.simulation;
     let used = simulation.events.handled() as u64;
@@ -50,10 +51,10 @@ pub fn stop_events(book: &mut [u8], plan: &[u8], site: &Site, state: &State) -> 
     write_run(book, plan, site, simulation, 0, used, ended)
 }
 
-// The same of a run by steps.
+// The same of a run by steps, whatever site it ran.
 pub fn stop_steps(book: &mut [u8], plan: &[u8], site: &Site, run: &StepRun) -> Totals
     requires { Writable plan.now site.now (booked run.now.state.simulation.sessions) book.old }
-    ensures { (n : ℕ) → RunDone site.now n run.now → Stopped plan.now 1 (by_steps (plan_of site.now) n) book.old result book.new }
+    ensures { (ran : Site) (n : ℕ) → RunDone ran n run.now → Stopped plan.now 1 (by_steps (plan_of ran) n) book.old result book.new }
 {
     let simulation = &run.state.simulation;
     write_run(book, plan, site, simulation, 1, run.time, run.ended)

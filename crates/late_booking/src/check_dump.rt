@@ -1,8 +1,7 @@
-// A plan that is checked, and if it is fine dumped after some events.
+// A plan that is checked, and if it is fine dumped after some events, into a buffer of any length from 16,384 bytes on, as C lends it.
 ghost use Rattle.std.specs.Prelude.{◌≡◌, ◌≤◌, length};
 ghost use Rattle.files.specs.Book.{written};
 ghost use Rattle.files.specs.Check.{check_plan};
-ghost use Rattle.files.specs.Code.Reading.{Loaded};
 ghost use Rattle.dump.specs.Dump.{dump_of};
 ghost use Rattle.late_booking.specs.Call.{dumped_after};
 
@@ -10,14 +9,15 @@ use dump::dump::put_dump;
 use engine::discrete;
 use engine::site::Site;
 use files::check::read_plan;
+use files::loaded::LoadedPlan;
 use plan::answer::Refusal;
 
 // Dumps a plan that was read, after n events.
-fn dump_site(plan: &[u8], site: &Site, n: u64, dump: &mut [u8])
-    requires loaded { Loaded plan.now site.now }
-    requires room { 16384 ≤ length dump.old }
-    ensures { dump.new ≡ written (dump_of plan.now n) dump.old }
+fn dump_site(read: LoadedPlan<'_>, n: u64, dump: &mut [u8])
+    requires { 16384 ≤ length dump.old }
+    ensures { dump.new ≡ written (dump_of read.entry.plan.now n) dump.old }
 {
+    let LoadedPlan { plan, site } = read;
     let state = discrete::run(site, n);
     put_dump(dump, plan, site, &state);
 }
@@ -30,6 +30,6 @@ pub fn check_dump(plan: &[u8], n: u64, dump: &mut [u8]) -> Result<(), Refusal>
 {
     let mut site = Site::empty();
     read_plan(plan, &mut site)?;
-    dump_site(plan, &site, n, dump);
+    dump_site(LoadedPlan { plan, site: &site }, n, dump);
     Ok(())
 }

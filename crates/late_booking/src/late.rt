@@ -1,11 +1,11 @@
-// A car booked late: the new dump is that of the plan with the car last, after the same handled count.
+// A car booked late: the new dump is that of the plan with the car last, after the same handled count. The calls take plan and
+// dump one by one, as C lends them.
 ghost use Rattle.std.specs.Prelude.{◌≡◌, ◌+◌, ◌≤◌, ◌<◌, length};
 ghost use Rattle.charger.specs.Lists.{All};
 ghost use Rattle.charger.specs.Code.Vehicles.{listed};
 ghost use Rattle.engine.specs.Code.Simulation.{plan_of, pending, model, InTime};
 ghost use Rattle.engine.specs.Discrete.{run};
 ghost use Rattle.files.specs.Check.{check_plan};
-ghost use Rattle.files.specs.Code.Reading.{Loaded};
 ghost use Rattle.plan.specs.Places.{vehicle_count};
 ghost use Rattle.dump.specs.Dump.{handled_in};
 ghost use Rattle.late_booking.specs.LongerPlan.{longer};
@@ -21,8 +21,10 @@ use engine::discrete::State;
 use engine::events::EventQueue;
 use engine::site::Site;
 use files::check::read_plan;
+use files::loaded::LoadedPlan;
 use plan::answer::{Refusal, Rule};
 use plan::bytes::u64_at;
+use plan::places::PlanFile;
 
 // The time of the event that pops first; 0 where there is none, as the rules say it.
 fn first_time(events: &EventQueue) -> u64
@@ -43,7 +45,6 @@ struct Reached {
 
 // The run of a plan that was read, up to its n-th event.
 fn reach(site: &Site, n: u64, arrival: u64) -> Reached
-    requires few { length (listed site.now.vehicles) ≤ 64 }
     requires times { All InTime (listed site.now.vehicles) }
     ensures same { model result.state ≡ run (plan_of site.now) n }
     ensures later { result.later ≡ is_later (plan_of site.now) n arrival }
@@ -61,8 +62,10 @@ fn reach(site: &Site, n: u64, arrival: u64) -> Reached
 }
 
 // Makes the longer plan, checks it, and dumps it after n events if it is fine.
-fn dump_longer(plan: &[u8], car: &[u8], n: u64, new: &mut [u8]) -> Result<(), Refusal>
-    requires { ((512 ≤ length plan.now) × (length plan.now + 512 ≤ 57856)) × ((vehicle_count plan.now < 64) × ((length car.now ≡ 512) × (16384 ≤ length new.old))) }
+fn dump_longer(plan: &PlanFile, car: &[u8; 512], n: u64, new: &mut [u8]) -> Result<(), Refusal>
+    requires size { length plan.now + 512 ≤ 57856 }
+    requires vehicles { vehicle_count plan.now < 64 }
+    requires room { 16384 ≤ length new.old }
     ensures answer { result ≡ check_plan (longer plan.now car.now) }
     ensures dump { new.new ≡ dumped_after (longer plan.now car.now) n result new.old }
 {
@@ -73,18 +76,16 @@ fn dump_longer(plan: &[u8], car: &[u8], n: u64, new: &mut [u8]) -> Result<(), Re
 
 // Books a car into a plan that was read.
 fn book_site(
-    plan: &[u8],
-    site: &Site,
+    read: LoadedPlan<'_>,
     dump: &[u8],
-    car: &[u8],
+    car: &[u8; 512],
     new: &mut [u8],
 ) -> Result<(), Refusal>
-    requires loaded { Loaded plan.now site.now }
-    requires car { length car.now ≡ 512 }
-    requires room { 16384 ≤ length new.old }
-    ensures answer { result ≡ booking_answer plan.now dump.now car.now }
-    ensures dump { new.new ≡ dumped_after (longer plan.now car.now) (handled_in dump.now) result new.old }
+    requires { 16384 ≤ length new.old }
+    ensures answer { result ≡ booking_answer read.entry.plan.now dump.now car.now }
+    ensures dump { new.new ≡ dumped_after (longer read.entry.plan.now car.now) (handled_in dump.now) result new.old }
 {
+    let LoadedPlan { plan, site } = read;
     if dump.len() < 512 {
         return Err(Refusal::OtherDump);
     }
@@ -99,7 +100,8 @@ fn book_site(
     if !reached.later {
         return Err(Refusal::NotLater);
     }
-    dump_longer(plan, car, handled, new)
+    let file = PlanFile { bytes: plan };
+    dump_longer(&file, car, handled, new)
 }
 
 // Books a car into a plan whose run by events was dumped, and writes the new dump. A refused call changes nothing.
@@ -118,10 +120,11 @@ pub fn book_late(plan: &[u8], dump: &[u8], car: &[u8], new: &mut [u8]) -> Result
     if new.len() < 16384 {
         return Err(Refusal::DumpUnder);
     }
-    if car.len() != 512 {
+    let Ok(block) = <&[u8; 512]>::try_from(car) else {
         return Err(Refusal::Broken(Rule::Length, 0));
-    }
+    };
     let mut site = Site::empty();
     read_plan(plan, &mut site)?;
-    book_site(plan, &site, dump, car, new)
+    let read = LoadedPlan { plan, site: &site };
+    book_site(read, dump, block, new)
 }

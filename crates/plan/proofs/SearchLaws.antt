@@ -1,5 +1,5 @@
 -- Laws of a loop over the indices from some k up to, not including, n, and of a list that such a loop fills. Assumes nothing.
-use Rattle.std.proofs.Common.{◌≡◌, ℕ, zero, suc, ◌+◌, ◌-◌, ◌<◌, ◌≤◌, Bool, true, false, cond, ◌&&◌, Some, None, List, [], ◌∷◌, ◌++◌, map, length, get_or, take, set, sym, refl, ap, ◌∙◌, inl, inr, add-zero, eq-or-lt_of_le, zero-add, add-one, le-ltb, lt-ltb, ltb, ltb-true, arith, get_or-take}
+use Rattle.std.proofs.Common.{◌≡◌, ℕ, zero, suc, ◌+◌, ◌-◌, ◌<◌, ◌≤◌, Bool, true, false, cond, ◌&&◌, Some, None, List, [], ◌∷◌, ◌++◌, map, length, get_or, take, set, sym, refl, ap, ◌∙◌, inl, inr, add-zero, eq-or-lt_of_le, zero-add, add-one, le-ltb, lt-ltb, ltb, ltb-true, arith}
 use mathlib.Core.Bool.{and_assoc}
 use Rattle.charger.specs.Lists.{All, none, also}
 use Rattle.charger.proofs.Lists.{by_cond, and_true}
@@ -186,10 +186,6 @@ module _ {A : Type 0} (f : ℕ → A) where
   -- one push more
   pub push_step : (xs : List A) (i : ℕ) (x : A) → xs ≡ each f 0 i → x ≡ f i → xs ++ (x ∷ []) ≡ each f 0 (i + 1)
   push_step xs i x e p = rw (e, p, add-one, each_suc 0 i, zero-add)
-
-  -- a member of what is filled
-  pub fill_at : (a : List A) (n i : ℕ) (d : A) → take n a ≡ each f 0 n → i < n → get_or a i d ≡ f i
-  fill_at a n i d e h = sym (get_or-take n a i d h) ∙ rw (e, each_at 0 n i d h, zero-add)
 
   -- every member has a property that f has at every index
   pub all_each : {P : A → Type 0} (k m : ℕ) → ((i : ℕ) → k ≤ i → i < k + m → P (f i)) → All P (each f k m)

@@ -1,6 +1,6 @@
 -- Rules. A block of a plan, a book or a dump: 512 bytes, the last four of them its check.
-use Rattle.std.specs.Prelude.{ℕ, zero, suc, ◌+◌, ◌*◌, ◌/◌, ◌%◌, ◌^◌, Bool, ◌&&◌, List, ◌++◌, take, drop, ◌==◌, nat_le, nat_lt}
-use Rattle.plan.specs.Bytes.{le_at, bytes}
+use Rattle.std.specs.Prelude.{ℕ, zero, suc, ◌+◌, ◌-◌, ◌*◌, ◌/◌, ◌%◌, ◌^◌, Bool, ◌&&◌, List, ◌++◌, take, drop, ◌==◌, nat_le, nat_lt}
+use Rattle.plan.specs.Bytes.{le_at, bytes, pieces}
 
 -- the sum of the first n 32-bit words of b
 unfoldable pub words : ℕ → List ℕ → ℕ
@@ -26,3 +26,7 @@ block file k = take 512 (drop (512 * k) file)
 -- a file of n bytes: not 0 of them, a multiple of 512, and not above `most` blocks
 unfoldable pub whole_blocks : ℕ → ℕ → Bool
 whole_blocks n most = nat_lt 0 n && n % 512 == 0 && nat_le (n / 512) most
+
+-- the block of the n slots from n j on, each of w bytes, with zero bytes up to its check, where the first of such blocks is the place-th of its file
+abbrev pub record_block : (ℕ → List ℕ) → ℕ → ℕ → ℕ → ℕ → List ℕ
+record_block slot w n place j = sealed (place + j) (pieces slot (n * j) n ++ bytes (508 - w * n) 0)

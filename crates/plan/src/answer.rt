@@ -129,7 +129,8 @@ pub fn run_numbers(answer: Result<Totals, Refusal>) -> [u64; 11]
     }
 }
 
-// The eleven numbers of a check: of a plan that is fine, those of a run in which nothing came about.
+// The eleven numbers of a check: of a plan that is fine, those of a run in which nothing came about. One function for both kinds of answer would
+// want a conversion of () to totals, and would say no more than this line does.
 pub fn check_numbers(answer: Result<(), Refusal>) -> [u64; 11]
     ensures { result ≡ check_numbers answer }
 {

@@ -18,7 +18,7 @@ pub fn check_of(b: &[u8], place: u32) -> u32
     sum
 }
 
-// Stores the check of the block of s at at, the place-th of its file.
+// Stores the check of the block of s at at, the place-th of its file. The block lies anywhere in a longer buffer, so no array type says its room.
 pub fn seal(s: &mut [u8], at: usize, place: u32)
     requires { at + 512 ≤ length s.old }
     ensures { s.new ≡ sets s.old (at + 508) (bytes 4 (check_of place (take 508 (drop at s.old)))) }

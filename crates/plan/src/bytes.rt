@@ -1,7 +1,7 @@
 // Little-endian numbers in a slice.
 ghost use Rattle.std.specs.Prelude.{◌≡◌, ◌+◌, ◌<◌, ◌≤◌, length};
 ghost use Rattle.std.proofs.lemmas.List.Edits.{sets};
-ghost use Rattle.plan.specs.Bytes.{le_at, bytes, fields};
+ghost use Rattle.plan.specs.Bytes.{le_at, bytes, fields, in_a_row};
 
 // The number in the n bytes of s from at.
 pub fn get(s: &[u8], at: usize, n: usize) -> u64
@@ -15,7 +15,8 @@ pub fn get(s: &[u8], at: usize, n: usize) -> u64
     v
 }
 
-// Of each width, in a type that holds it: from one function for all, every caller would have to narrow the number.
+// Of each width: places and counts as `usize`, wider numbers in a type of their width. From one function for all, every caller would have to
+// narrow the number.
 pub fn u8_at(s: &[u8], at: usize) -> usize
     requires { at + 1 ≤ length s.now }
     ensures { (result ≡ le_at 1 s.now at) × (result < 256) }
@@ -64,15 +65,14 @@ pub fn put_bytes(s: &mut [u8], at: usize, from: &[u8])
     s[at..at + from.len()].copy_from_slice(from);
 }
 
-// Stores fields, one after the other, into s from at: a width, a value, a width, a value, ..
-pub fn put_fields(s: &mut [u8], at: usize, f: &[u64])
-    requires { at + length (fields f.now) ≤ length s.old }
-    ensures { s.new ≡ sets s.old at (fields f.now) }
+// Stores fields, one after the other, into s from at: of each its width and its value.
+pub fn put_fields(s: &mut [u8], at: usize, f: &[(usize, u64)])
+    requires { at + length (fields (in_a_row f.now)) ≤ length s.old }
+    ensures { s.new ≡ sets s.old at (fields (in_a_row f.now)) }
 {
     let mut p = at;
-    for i in 0..f.len() / 2 {
-        let n = f[2 * i] as usize;
-        put(s, p, n, f[2 * i + 1]);
+    for &(n, v) in f {
+        put(s, p, n, v);
         p += n;
     }
 }

@@ -1,4 +1,5 @@
-// The fields of a plan's blocks, each within its limits.
+// The fields of a plan's blocks, each within its limits. The bounds on places and counts (`at + 8 ≤`, `to ≤`, `n ≤ 30`) stand in the contracts, since a
+// type that carries one would have to name the block in which it is a place.
 ghost use Rattle.std.specs.Prelude.{◌≡◌, ◌+◌, ◌*◌, ◌<◌, ◌≤◌, length};
 ghost use Rattle.curve.specs.F64.{in_range};
 ghost use Rattle.plan.specs.Bytes.{le_at};
@@ -49,7 +50,7 @@ pub fn zeros(b: &[u8], from: usize, to: usize) -> bool
 pub fn letters_ok(b: &[u8; 512]) -> bool
     ensures { result ≡ letters_ok b.now }
 {
-    (b[0] == b'P') & (b[1] == b'L') & (b[2] == b'A') & (b[3] == b'N')
+    b.starts_with(b"PLAN")
 }
 
 fn limit_ok(b: &[u8; 512]) -> bool

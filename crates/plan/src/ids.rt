@@ -5,7 +5,7 @@ ghost use Rattle.plan.specs.Plan.{id_at, with_id};
 
 use crate::bytes::u32_at;
 
-// The id of the block at the index k.
+// The id of the block at the index k. That the block is there is a bound on k: a type for it would carry k beside the plan.
 pub fn id_at(plan: &[u8], k: usize) -> u32
     requires { 512 * k + 512 ≤ length plan.now }
     ensures { result ≡ id_at plan.now k }

@@ -8,3 +8,4 @@ pub mod fields;
 pub mod ids;
 pub mod places;
 pub mod plan;
+pub mod records;

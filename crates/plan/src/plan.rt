@@ -1,5 +1,7 @@
-// A check of a plan's blocks: the refusals 4 to 11, in number order, each over the whole plan before the next.
-ghost use Rattle.std.specs.Prelude.{◌≡◌, ◌+◌, ◌*◌, ◌<◌, ◌≤◌, length, take};
+// A check of a plan's blocks: the refusals 4 to 11, in number order, each over the whole plan before the next. Bounds on a
+// number of points and on the index of a block are asked by clause, as in `fields` and `ids`.
+ghost use Rattle.std.specs.Prelude.{◌≡◌, ◌+◌, ◌*◌, ◌<◌, ◌≤◌, length, take, slice_index_or};
+ghost use Rattle.std.specs.Float.{nan};
 ghost use Rattle.plan.specs.Search.{first_index, short_of, every, holds, each};
 ghost use Rattle.plan.specs.Fields.{f64_at};
 ghost use Rattle.plan.specs.Plan.{count_tests, field_tests, new_soc, broken as Plan·broken, rules, first_refusal, check_blocks};
@@ -12,7 +14,7 @@ use crate::fields::{
     charger_ok, f64_at, header_ok, letters_ok, point_count, profile_ok, vehicle_ok,
 };
 use crate::ids::{id_at, with_id};
-use crate::places::{Kind, charger_count, kind_at, profile_count, start_of, vehicle_count};
+use crate::places::{Kind, PlanFile};
 
 // A header, 16 profiles, 32 chargers and 64 vehicles.
 const MOST_BLOCKS: usize = 113;
@@ -32,9 +34,10 @@ const RULES: [Rule; 7] = [
 fn counts_ok(b: &[u8; 512], blocks: usize) -> bool
     ensures { result ≡ holds (count_tests b.now blocks) }
 {
-    let profiles = profile_count(b);
-    let chargers = charger_count(b);
-    let vehicles = vehicle_count(b);
+    let header = PlanFile { bytes: b };
+    let profiles = header.profile_count();
+    let chargers = header.charger_count();
+    let vehicles = header.vehicle_count();
     letters_ok(b)
         & (profiles <= 16)
         & (chargers <= 32)
@@ -54,120 +57,137 @@ fn fields_ok(kind: Kind, b: &[u8; 512]) -> bool
     }
 }
 
-// Reads the SOCs of the first n points of a profile's block into socs.
-fn read_socs(socs: &mut [f64], b: &[u8; 512], n: usize)
-    requires { (n ≤ 30) × (n ≤ length socs.old) }
-    ensures { take n socs.new ≡ each (λ j. f64_at b.now (16 + 16 * j)) 0 n }
+// Reads the SOCs of the first points of a profile's block, as many as there is room for.
+fn read_socs(socs: &mut [f64], b: &[u8; 512])
+    requires { length socs.old ≤ 30 }
+    ensures { socs.new ≡ each (λ j. f64_at b.now (16 + 16 * j)) 0 (length socs.old) }
 {
-    for i in 0..n {
-        socs[i] = f64_at(b, 16 + 16 * i);
+    for (i, soc) in socs.iter_mut().enumerate() {
+        *soc = f64_at(b, 16 + 16 * i);
     }
 }
 
-// 9: the i-th SOC equals none before it.
+// 9: a SOC equals none of those before it.
 // There is no early exit, so that the compiler can take many SOCs at once.
-fn new_soc(socs: &[f64], i: usize) -> bool
-    requires { i < length socs.now }
-    ensures { result ≡ new_among socs.now i }
+fn new_soc(before: &[f64], soc: f64) -> bool
+    ensures { result ≡ new_among before.now soc }
 {
-    let x = socs[i];
     let mut new = true;
-    for j in 0..i {
-        new &= !(socs[j] == x);
+    for x in before {
+        new &= !(*x == soc);
     }
     new
 }
 
-fn new_socs(b: &[u8; 512], n: usize) -> bool
-    requires { n ≤ 30 }
-    ensures { result ≡ every (new_soc b.now) 0 n }
+// Each SOC is a new one.
+fn all_new(socs: &[f64]) -> bool
+    ensures { result ≡ every (λ i. new_among (take i socs.now) (slice_index_or socs.now i nan)) 0 (length socs.now) }
 {
-    let mut socs = [0.0; 30];
-    read_socs(&mut socs, b, n);
-    for i in 0..n {
-        if !new_soc(&socs, i) {
+    for (i, soc) in socs.iter().enumerate() {
+        if !new_soc(&socs[..i], *soc) {
             return false;
         }
     }
     true
 }
 
+fn new_socs(b: &[u8; 512], n: usize) -> bool
+    requires { n ≤ 30 }
+    ensures { result ≡ every (new_soc b.now) 0 n }
+{
+    let mut room = [0.0; 30];
+    let socs = &mut room[..n];
+    read_socs(socs, b);
+    all_new(socs)
+}
+
 // 10: an earlier block of its kind has the id of the block at the index k.
-fn used_id(plan: &[u8], k: usize) -> bool
+fn used_id(plan: &PlanFile, k: usize) -> bool
     requires { 512 * k + 512 ≤ length plan.now }
     ensures { result ≡ Plan·broken Rule.UsedId plan.now k }
 {
-    let start = start_of(plan, kind_at(plan, k));
-    with_id(plan, start, k, id_at(plan, k)).is_some()
+    let start = plan.start_of(plan.kind_at(k));
+    with_id(plan.bytes, start, k, id_at(plan.bytes, k)).is_some()
 }
 
 // 11: the block at the index k is a vehicle that names no profile.
-fn no_profile(plan: &[u8], k: usize) -> bool
+fn no_profile(plan: &PlanFile, k: usize) -> bool
     requires { 512 * k + 512 ≤ length plan.now }
     ensures { result ≡ Plan·broken Rule.NoProfile plan.now k }
 {
-    let kind = kind_at(plan, k);
-    let end = start_of(plan, Kind::Charger);
-    let id = u32_at(block(plan, k), 4);
+    let kind = plan.kind_at(k);
+    let end = plan.start_of(Kind::Charger);
+    let id = u32_at(block(plan.bytes, k), 4);
     if end <= k {
-        (kind == Kind::Vehicle) & with_id(plan, 1, end, id).is_none()
+        (kind == Kind::Vehicle) & with_id(plan.bytes, 1, end, id).is_none()
     } else {
         false
     }
 }
 
-// The block at the index k is one that the rule refuses.
-fn broken(plan: &[u8], rule: Rule, k: usize) -> bool
-    requires { (512 * k + 512 ≤ length plan.now) × (length plan.now ≤ 57856) }
-    ensures { result ≡ Plan·broken rule plan.now k }
-{
-    let b = block(plan, k);
-    let kind = kind_at(plan, k);
-    match rule {
-        Rule::Length => false,
-        Rule::Check => !passes(plan, k),
-        Rule::Header => (k == 0) & !counts_ok(block(plan, 0), plan.len() / 512),
-        Rule::Field => !fields_ok(kind, b),
-        Rule::NoPoint => (kind == Kind::Profile) & (point_count(b) == 0),
-        Rule::EqualSoc => (kind == Kind::Profile) & !new_socs(b, point_count(b)),
-        Rule::UsedId => used_id(plan, k),
-        Rule::NoProfile => no_profile(plan, k),
-    }
+// A plan of whole blocks, and how many they are: no more than a plan has.
+#[derive(Drop)]
+struct Whole<'a> {
+    plan: PlanFile<'a>,
+    count: usize,
+    ghost whole: { length plan ≡ 512 * count },
+    ghost few: { count ≤ 113 },
 }
 
-// The index of the first of the n blocks that the rule refuses.
-fn first_broken(plan: &[u8], rule: Rule, n: usize) -> Option<usize>
-    requires { (512 * n ≤ length plan.now) × (length plan.now ≤ 57856) }
-    ensures { result ≡ short_of (first_index (Plan·broken rule plan.now) 0 n) n }
-{
-    for k in 0..n {
-        if broken(plan, rule, k) {
-            return Some(k);
+impl Whole<'_> {
+    // The block at the index k is one that the rule refuses.
+    fn broken(&self, rule: Rule, k: usize) -> bool
+        requires { k < self.now.count }
+        ensures { result ≡ Plan·broken rule self.now.plan k }
+    {
+        let plan = &self.plan;
+        let b = block(plan.bytes, k);
+        let kind = plan.kind_at(k);
+        match rule {
+            Rule::Length => false,
+            Rule::Check => !passes(plan.bytes, k),
+            Rule::Header => (k == 0) & !counts_ok(b, self.count),
+            Rule::Field => !fields_ok(kind, b),
+            Rule::NoPoint => (kind == Kind::Profile) & (point_count(b) == 0),
+            Rule::EqualSoc => (kind == Kind::Profile) & !new_socs(b, point_count(b)),
+            Rule::UsedId => used_id(plan, k),
+            Rule::NoProfile => no_profile(plan, k),
         }
     }
-    None
-}
 
-// The first refusal of the n blocks.
-fn first_refusal(plan: &[u8], n: usize) -> Result<(), Refusal>
-    requires { (512 * n ≤ length plan.now) × (length plan.now ≤ 57856) }
-    ensures { result ≡ first_refusal rules plan.now n }
-{
-    for rule in RULES {
-        if let Some(k) = first_broken(plan, rule, n) {
-            return Err(Refusal::Broken(rule, k + 1));
+    // The index of the first block that the rule refuses.
+    fn first_broken(&self, rule: Rule) -> Option<usize>
+        ensures { result ≡ short_of (first_index (Plan·broken rule self.now.plan) 0 self.now.count) self.now.count }
+    {
+        for k in 0..self.count {
+            if self.broken(rule, k) {
+                return Some(k);
+            }
         }
+        None
     }
-    Ok(())
+
+    // The first refusal of the blocks.
+    fn first_refusal(&self) -> Result<(), Refusal>
+        ensures { result ≡ first_refusal rules self.now.plan self.now.count }
+    {
+        for rule in RULES {
+            if let Some(k) = self.first_broken(rule) {
+                return Err(Refusal::Broken(rule, k + 1));
+            }
+        }
+        Ok(())
+    }
 }
 
 // What a check of the blocks answers.
 pub fn check_blocks(plan: &[u8]) -> Result<(), Refusal>
     ensures { result ≡ check_blocks plan.now }
 {
-    let n = plan.len();
-    if !whole_blocks(n, MOST_BLOCKS) {
+    let count = plan.len() / 512;
+    if !whole_blocks(plan.len(), MOST_BLOCKS) {
         return Err(Refusal::Broken(Rule::Length, 0));
     }
-    first_refusal(plan, n / 512)
+    let plan = PlanFile { bytes: plan };
+    Whole { plan, count }.first_refusal()
 }

@@ -1,18 +1,17 @@
 // One car alone at the site: its rounds need no pass over the other chargers, and its state stays at hand.
 ghost use Rattle.std.specs.Prelude.{◌≡◌, true, false, not, ◌&&◌, [], ◌∷◌};
 ghost use Rattle.std.specs.Float.Ieee.{lt, ne};
-ghost use Rattle.charger.specs.Code.Profiles.{curve_at};
+ghost use Rattle.charger.specs.Code.Profiles.{curve_in};
 ghost use Rattle.power.specs.ChargerState.{is_free, with_cap, delivered};
 ghost use Rattle.power.specs.Code.Rounds.{spin};
 ghost use Rattle.power.specs.Code.Alone.{round_alone, CapMatchesRequest};
-ghost use Rattle.power.specs.Code.Bank.{Rising, Cars, spun};
+ghost use Rattle.power.specs.Code.Bank.{Cars, spun};
 
 use crate::charger_state::ChargerState;
 use crate::power::{Limit, Spun, added, cap_of, scaling};
+use crate::rising::RisingProfiles;
 use crate::thin::{progress, set_power_cap};
-use charger::charge_profile_list::{place_on_curve, reached_on_curve};
 use curve::float::same;
-use curve::points::Point;
 use curve::units::Kw;
 
 // A car that asks for that power asks for no more than the rated one; a NaN is no power.
@@ -84,14 +83,13 @@ fn next(s: &mut ChargerState, power: Kw, limit: Limit, later: bool)
 }
 
 // Up to `count` rounds, until the charger is finished.
-fn rounds(s: &mut ChargerState, curves: &[Point], lens: &[u8], limit: Limit, count: u64) -> Spun
+fn rounds(s: &mut ChargerState, rising: RisingProfiles<'_>, limit: Limit, count: u64) -> Spun
     requires busy { is_free s.old.status ≡ false }
-    requires rising { Rising curves.now lens.now }
-    ensures { spun (s.new ∷ []) result ≡ spin limit (curve_at curves.now lens.now) 0 count (s.old ∷ []) }
+    ensures { spun (s.new ∷ []) result ≡ spin limit (curve_in rising.entry.profiles) 0 count (s.old ∷ []) }
 {
-    let mut segment = reached_on_curve(curves, lens, s.profile, s.soc);
+    let mut segment = rising.profiles.reached(s.profile, s.soc);
     for k in 0..count {
-        let place = place_on_curve(curves, lens, s.profile, segment, s.soc);
+        let place = rising.profiles.place(s.profile, segment, s.soc);
         segment = place.reached;
         next(s, place.power, limit, 0 < k);
         if s.status.is_finished() {
@@ -111,14 +109,12 @@ fn rounds(s: &mut ChargerState, curves: &[Point], lens: &[u8], limit: Limit, cou
 pub fn charge_alone(
     bank: &mut [ChargerState],
     i: usize,
-    curves: &[Point],
-    lens: &[u8],
+    rising: RisingProfiles<'_>,
     limit: Limit,
     count: u64,
 ) -> Spun
     requires cars { Cars bank.old (i ∷ []) }
-    requires rising { Rising curves.now lens.now }
-    ensures { spun bank.new result ≡ spin limit (curve_at curves.now lens.now) 0 count bank.old }
+    ensures { spun bank.new result ≡ spin limit (curve_in rising.entry.profiles) 0 count bank.old }
 {
     let mut s = bank[i];
     if s.status.is_free() {
@@ -127,7 +123,7 @@ pub fn charge_alone(
             any: false,
         };
     }
-    let spun = rounds(&mut s, curves, lens, limit, count);
+    let spun = rounds(&mut s, rising, limit, count);
     bank[i] = s;
     spun
 }

@@ -50,6 +50,7 @@ pub const EMPTY: ChargerState = ChargerState {
     vehicle: 0,
 };
 
+// By hand, since the engine goes by its promise, the rules' state with no car. A derived one promises field by field, and does not prove it.
 impl Default for ChargerState {
     ghost use Rattle.power.specs.ChargerState as Spec;
 
@@ -121,26 +122,25 @@ impl ChargerState {
         min(self.requested.0, self.rated.0)
     }
 
-    // By value from here on, and the thin calls (thin.rt) alter a state by them: document 01 names this form.
-    pub fn with_cap(self, cap: Kw) -> Self
+    // By value from here on, and the thin calls (thin.rt) alter a state by them: document 01 names this form. They change fields: a new
+    // struct would be stored with the bytes that lie between its fields, in every round.
+    pub fn with_cap(mut self, cap: Kw) -> Self
         ensures { result ≡ Spec.with_cap cap self }
     {
-        ChargerState { cap, ..self }
+        self.cap = cap;
+        self
     }
 
     // A round of charging by a power: idle once the target is reached.
-    pub fn delivered(self, power: f64) -> Self
+    pub fn delivered(mut self, power: f64) -> Self
         ensures { result ≡ Spec.delivered power self }
     {
         let energy = power * TIMESTEP_HRS;
-        let soc = self.soc + energy / self.battery.0;
-        ChargerState {
-            status: Status::charging_until(self.target, soc),
-            soc,
-            energy: Kwh(self.energy.0 + energy),
-            peak: Kw(max(self.peak.0, power)),
-            ..self
-        }
+        self.soc += energy / self.battery.0;
+        self.status = Status::charging_until(self.target, self.soc);
+        self.energy.0 += energy;
+        self.peak.0 = max(self.peak.0, power);
+        self
     }
 
     // A round of charging.
@@ -151,15 +151,12 @@ impl ChargerState {
     }
 
     // A round of standing idle: finished once no idle time is left.
-    fn after_idling(self) -> Self
+    fn after_idling(mut self) -> Self
         ensures { result ≡ Spec.after_idling self }
     {
-        let left = self.idle.0 - 1.0;
-        ChargerState {
-            status: Status::idle_until(left),
-            idle: Seconds(left),
-            ..self
-        }
+        self.idle.0 -= 1.0;
+        self.status = Status::idle_until(self.idle.0);
+        self
     }
 
     // A round's progress. The arms assign: as the value of the match, the state would cost the second pass more moves of memory.

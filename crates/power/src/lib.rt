@@ -4,5 +4,6 @@
 pub mod alone;
 pub mod charger_state;
 pub mod power;
+pub mod rising;
 pub mod rounds;
 pub mod thin;

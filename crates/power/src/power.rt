@@ -1,17 +1,17 @@
-// The site's power (evse/site.rs), and rounds over the bank: the states of all chargers, in one lent slice.
+// The site's power (evse/site.rs), and rounds over the bank: the states of all chargers, in one lent slice. That they are few, and that the
+// places are the cars', is asked by clause: a struct of the two slices would be made in each call only to be taken apart.
 ghost use Rattle.std.specs.Prelude.{◌≡◌, false, map, ◌≤◌, length};
 ghost use Rattle.curve.specs.F64.{ratio};
-ghost use Rattle.charger.specs.Code.Profiles.{curve_at};
+ghost use Rattle.charger.specs.Code.Profiles.{curve_in};
 ghost use Rattle.power.specs.ChargerState.{is_finished};
-ghost use Rattle.power.specs.Code.Bank.{Rising, Cars, advanced, spun};
+ghost use Rattle.power.specs.Code.Bank.{Cars, advanced, spun};
 ghost use Rattle.power.specs.Parked.{ParkedDrawNothing};
 ghost use Rattle.power.specs.Power as Spec;
 ghost use Rattle.power.specs.Code.Rounds as Rounds;
 
 use crate::charger_state::{ChargerState, Status};
+use crate::rising::RisingProfiles;
 use crate::thin::{progress, set_power_cap};
-use charger::charge_profile_list::place_on_curve;
-use curve::points::Point;
 use curve::units::Kw;
 
 // The most that all chargers may draw together. An `Option` would be no plainer: `None` says less than `Unlimited`.
@@ -53,21 +53,14 @@ pub fn added(sum: f64, status: Status, draw: f64) -> f64
 
 // One charger's turn in the first pass: its request, and the sum with what it draws. `segment` is the one of its curve that was found
 // last, which is where the search begins.
-fn request(
-    s: &mut ChargerState,
-    curves: &[Point],
-    lens: &[u8],
-    segment: &mut usize,
-    sum: f64,
-) -> f64
-    requires rising { Rising curves.now lens.now }
-    ensures asked { s.new ≡ Spec.active (Spec.request (curve_at curves.now lens.now)) s.old }
+fn request(s: &mut ChargerState, rising: RisingProfiles<'_>, segment: &mut usize, sum: f64) -> f64
+    ensures asked { s.new ≡ Spec.active (Spec.request (curve_in rising.entry.profiles)) s.old }
     ensures summed { result ≡ Spec.added sum s.new }
 {
     if s.status.is_free() {
         return sum;
     }
-    let place = place_on_curve(curves, lens, s.profile, *segment, s.soc);
+    let place = rising.profiles.place(s.profile, *segment, s.soc);
     *segment = place.reached;
     s.requested = place.power;
     added(sum, s.status, s.draw())
@@ -78,19 +71,17 @@ fn request(
 fn request_power(
     bank: &mut [ChargerState],
     busy: &[usize],
-    curves: &[Point],
-    lens: &[u8],
+    rising: RisingProfiles<'_>,
     segments: &mut [usize; 32],
 ) -> f64
     requires few { length bank.old ≤ 32 }
     requires cars { Cars bank.old busy.now }
-    requires rising { Rising curves.now lens.now }
-    ensures asked { bank.new ≡ map (Spec.active (Spec.request (curve_at curves.now lens.now))) bank.old }
+    ensures asked { bank.new ≡ map (Spec.active (Spec.request (curve_in rising.entry.profiles))) bank.old }
     ensures summed { result ≡ Spec.total (ratio 0 1) bank.new }
 {
     let mut sum = 0.0;
     for &i in busy {
-        sum = request(&mut bank[i], curves, lens, &mut segments[i], sum);
+        sum = request(&mut bank[i], rising, &mut segments[i], sum);
     }
     sum
 }
@@ -126,19 +117,17 @@ fn advance(bank: &mut [ChargerState], busy: &[usize], factor: f64) -> bool
 fn charge(
     bank: &mut [ChargerState],
     busy: &[usize],
-    curves: &[Point],
-    lens: &[u8],
+    rising: RisingProfiles<'_>,
     segments: &mut [usize; 32],
     limit: Limit,
 ) -> bool
     requires few { length bank.old ≤ 32 }
     requires cars { Cars bank.old busy.now }
-    requires rising { Rising curves.now lens.now }
-    ensures moved { bank.new ≡ Spec.charge limit (curve_at curves.now lens.now) bank.old }
+    ensures moved { bank.new ≡ Spec.charge limit (curve_in rising.entry.profiles) bank.old }
     ensures any { result ≡ Rounds.any_finished false bank.new }
-    ensures parked { ParkedDrawNothing limit (curve_at curves.now lens.now) bank.old bank.new }
+    ensures parked { ParkedDrawNothing limit (curve_in rising.entry.profiles) bank.old bank.new }
 {
-    let sum = request_power(bank, busy, curves, lens, segments);
+    let sum = request_power(bank, busy, rising, segments);
     advance(bank, busy, scaling(limit, sum))
 }
 
@@ -153,19 +142,17 @@ pub struct Spun {
 pub fn charge_together(
     bank: &mut [ChargerState],
     busy: &[usize],
-    curves: &[Point],
-    lens: &[u8],
+    rising: RisingProfiles<'_>,
     limit: Limit,
     count: u64,
 ) -> Spun
     requires few { length bank.old ≤ 32 }
     requires cars { Cars bank.old busy.now }
-    requires rising { Rising curves.now lens.now }
-    ensures { spun bank.new result ≡ Rounds.spin limit (curve_at curves.now lens.now) 0 count bank.old }
+    ensures { spun bank.new result ≡ Rounds.spin limit (curve_in rising.entry.profiles) 0 count bank.old }
 {
     let mut segments: [usize; 32] = [0; 32];
     for k in 0..count {
-        if charge(bank, busy, curves, lens, &mut segments, limit) {
+        if charge(bank, busy, rising, &mut segments, limit) {
             return Spun {
                 rounds: k + 1,
                 any: true,

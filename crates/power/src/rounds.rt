@@ -1,14 +1,14 @@
-// Rounds of power and progress: of one car alone, or of all that stand at the site.
+// Rounds of power and progress: of one car alone, or of all that stand at the site. That the states are few is asked by clause, as in `power`.
 ghost use Rattle.std.specs.Prelude.{◌≡◌, ◌≤◌, length};
-ghost use Rattle.charger.specs.Code.Profiles.{curve_at};
-ghost use Rattle.power.specs.Code.Bank.{Rising, Cars, spun};
+ghost use Rattle.charger.specs.Code.Profiles.{curve_in};
+ghost use Rattle.power.specs.Code.Bank.{Cars, spun};
 ghost use Rattle.power.specs.Code.Rounds as Rounds;
 
 use crate::alone::charge_alone;
 use crate::charger_state::ChargerState;
 use crate::power::{Limit, Spun, charge_together};
+use crate::rising::RisingProfiles;
 use arrayvec::ArrayVec;
-use curve::points::Point;
 
 // The places of the chargers that have a car.
 fn busy_places(bank: &[ChargerState]) -> ArrayVec<usize, 32>
@@ -27,14 +27,12 @@ fn busy_places(bank: &[ChargerState]) -> ArrayVec<usize, 32>
 // The same, with no car, one or several.
 pub fn charge_until(
     bank: &mut [ChargerState],
-    curves: &[Point],
-    lens: &[u8],
+    rising: RisingProfiles<'_>,
     limit: Limit,
     count: u64,
 ) -> Spun
     requires few { length bank.old ≤ 32 }
-    requires rising { Rising curves.now lens.now }
-    ensures { spun bank.new result ≡ Rounds.spin limit (curve_at curves.now lens.now) 0 count bank.old }
+    ensures { spun bank.new result ≡ Rounds.spin limit (curve_in rising.entry.profiles) 0 count bank.old }
 {
     let busy = busy_places(bank);
     match busy.as_slice() {
@@ -42,7 +40,7 @@ pub fn charge_until(
             rounds: count,
             any: false,
         },
-        &[i] => charge_alone(bank, i, curves, lens, limit, count),
-        places => charge_together(bank, places, curves, lens, limit, count),
+        &[i] => charge_alone(bank, i, rising, limit, count),
+        places => charge_together(bank, places, rising, limit, count),
     }
 }

@@ -12,7 +12,7 @@ use files::call::run;
 use plan::answer::run_numbers;
 use plan::bytes::put_bytes;
 
-// The byte at k; missing bytes are zero.
+// The byte at k; missing bytes are zero. That of a record that is replayed moves on, and is no function of a place.
 fn byte_at(input: &[u8], k: usize) -> u32
     ensures { (result ≡ le_at 1 input.now k) × (result < 256) }
 {

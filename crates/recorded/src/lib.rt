@@ -2,9 +2,15 @@
 // what the program writes of a call.
 #![tactic(auto)]
 
-ghost use Rattle.std.specs.Prelude.{◌<◌};
+ghost use Rattle.std.specs.Prelude.{◌≡◌, ◌<◌, ◌∷◌, ◌++◌, ℕ, List, [], drop, flat_map, take};
+ghost use Rattle.std.specs.Fn.{CalledAtMut};
+ghost use Rattle.std.specs.List.{AllZip};
+ghost use Rattle.std.proofs.lemmas.List.Edits.{sets};
+ghost use Rattle.plan.specs.Bytes.{bytes, le_at};
+ghost use Rattle.recorded.specs.Replay.{Calls, after_changes, changes, digest_of, mix};
 
-use plan::bytes::put;
+use plan::bytes::{put, put_bytes};
+use std::io;
 
 // What of a record is still to be read.
 #[derive(Drop)]
@@ -14,8 +20,10 @@ pub struct Record<'a> {
 
 impl<'a> Record<'a> {
     // The next byte.
+    #[tactic(auto, unfolding(plan::specs::Bytes::le_at))]
     pub fn byte(&mut self) -> usize
-        ensures { result < 256 }
+        ensures number { (result ≡ le_at 1 self.old.rest.now 0) × (result < 256) }
+        ensures left { self.new.rest.now ≡ drop 1 self.old.rest.now }
     {
         match self.rest.split_first() {
             None => 0,
@@ -27,28 +35,40 @@ impl<'a> Record<'a> {
     }
 
     // The little-endian number in the next two bytes.
+    #[tactic(auto, using(crate::proofs::Laws::two_bytes))]
     pub fn u16(&mut self) -> usize
-        ensures { result < 65536 }
+        ensures number { (result ≡ le_at 2 self.old.rest.now 0) × (result < 65536) }
+        ensures left { self.new.rest.now ≡ drop 2 self.old.rest.now }
     {
         let low = self.byte();
         low + 256 * self.byte()
     }
 
     // The little-endian number in the next four.
-    pub fn u32(&mut self) -> u32 {
+    #[tactic(auto, using(crate::proofs::Laws::four_bytes))]
+    pub fn u32(&mut self) -> u32
+        ensures number { result ≡ le_at 4 self.old.rest.now 0 }
+        ensures left { self.new.rest.now ≡ drop 4 self.old.rest.now }
+    {
         let low = self.u16() as u32;
         low + 65536 * self.u16() as u32
     }
 
     // The next n bytes, as far as the record goes.
-    fn bytes(&mut self, n: usize) -> &'a [u8] {
+    fn bytes(&mut self, n: usize) -> &'a [u8]
+        ensures first { result.now ≡ take n self.old.rest.now }
+        ensures left { self.new.rest.now ≡ drop n self.old.rest.now }
+    {
         let (first, rest) = self.rest.split_at(n.min(self.rest.len()));
         self.rest = rest;
         first
     }
 
     // Makes the changes that come next: their 16-bit number, and for each a 16-bit place, a byte count, and as many bytes.
-    pub fn change(&mut self, buffer: &mut [u8]) {
+    pub fn change(&mut self, buffer: &mut [u8])
+        ensures made { buffer.new ≡ changes (le_at 2 self.old.rest.now 0) (drop 2 self.old.rest.now) buffer.old }
+        ensures left { self.new.rest.now ≡ after_changes (le_at 2 self.old.rest.now 0) (drop 2 self.old.rest.now) }
+    {
         let changes = self.u16();
         for _ in 0..changes {
             let place = self.u16();
@@ -58,25 +78,49 @@ impl<'a> Record<'a> {
     }
 }
 
+// Replays a record: a 32-bit number of calls, and then each call, by what reads and makes the one that comes next.
+pub fn replay<F: FnMut(&mut Record) -> io::Result<()>>(bytes: &[u8], mut call: F) -> io::Result<()>
+    requires { F.IsAlwaysCallable call }
+    ensures { (first : Record) × (first.rest.now ≡ drop 4 bytes.now)
+        × Calls (λ f x a g y. CalledAtMut F.FnMut f x a g y) (le_at 4 bytes.now 0) call first result }
+{
+    let mut record = Record { rest: bytes };
+    let calls = record.u32();
+    for _ in 0..calls {
+        call(&mut record)?;
+    }
+    Ok(())
+}
+
 // Puts bytes into the buffer at `place`, as far as it goes.
-fn overwrite(buffer: &mut [u8], place: usize, from: &[u8]) {
-    for (to, x) in buffer.iter_mut().skip(place).zip(from) {
-        *to = *x;
+fn overwrite(buffer: &mut [u8], place: usize, from: &[u8])
+    ensures { buffer.new ≡ sets buffer.old place from.now }
+{
+    if place < buffer.len() {
+        let n = from.len().min(buffer.len() - place);
+        put_bytes(buffer, place, &from[..n]);
     }
 }
 
 // A digest that goes by every number and by their order, with one number more: 31 times the one so far, and the number.
-pub fn mixed(sum: u64, x: u64) -> u64 {
+#[tactic(auto, unfolding(crate::specs::Replay::mix))]
+pub fn mixed(sum: u64, x: u64) -> u64
+    ensures { result ≡ mix sum x }
+{
     sum.wrapping_mul(31).wrapping_add(x)
 }
 
 // The digest of all numbers of a buffer.
-pub fn digest<T: Copy + Into<u64>>(s: &[T]) -> u64 {
+pub fn digest<T: Copy + Into<u64>>(s: &[T]) -> u64
+    ensures { (xs : List ℕ) × AllZip T.converts s.now xs × (result ≡ digest_of xs) }
+{
     s.iter().fold(0, |sum, x| mixed(sum, (*x).into()))
 }
 
 // The numbers of a call and the digests of its two buffers, eight bytes each.
-pub fn answer_bytes(numbers: [u64; 11], first: u64, second: u64) -> [u8; 104] {
+pub fn answer_bytes(numbers: [u64; 11], first: u64, second: u64) -> [u8; 104]
+    ensures { result ≡ flat_map (bytes 8) (numbers ++ first ∷ second ∷ []) }
+{
     let mut out = [0u8; 104];
     for (i, x) in numbers.iter().enumerate() {
         put(&mut out, 8 * i, 8, *x);

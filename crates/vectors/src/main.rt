@@ -3,7 +3,7 @@
 #![tactic(auto)]
 
 use reading::read_full;
-use recorded::Record;
+use recorded::{Record, replay};
 use std::io;
 
 // Writes what the program writes for an input.
@@ -13,19 +13,16 @@ fn answer(rt: &impl Print, input: &[u8]) -> io::Result<()> {
     rt.write_all(&out[..n])
 }
 
-fn replay(rt: &impl Print, record: &mut Record) -> io::Result<()> {
-    let mut buffer = [0u8; 65536];
-    let inputs = record.u32();
-    for _ in 0..inputs {
-        let n = (record.u32() as usize).min(buffer.len());
-        record.change(&mut buffer);
-        answer(rt, &buffer[..n])?;
-    }
-    Ok(())
+// Makes the changes that come next in the record, and writes the answer to what the buffer then holds.
+fn replay_input(rt: &impl Print, buffer: &mut [u8; 65536], record: &mut Record) -> io::Result<()> {
+    let n = (record.u32() as usize).min(buffer.len());
+    record.change(buffer);
+    answer(rt, &buffer[..n])
 }
 
 fn main(rt: HostRuntime) -> io::Result<()> {
     let mut record = [0u8; 262144];
     let n = read_full(&mut rt.stdin(), &mut record)?;
-    replay(&rt, &mut Record { rest: &record[..n] })
+    let mut buffer = [0u8; 65536];
+    replay(&record[..n], |next| replay_input(&rt, &mut buffer, next))
 }

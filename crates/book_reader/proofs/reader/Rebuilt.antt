@@ -1,5 +1,5 @@
 -- A book that is neither damaged nor against the rules is the one that the writer writes for what it gives back. Assumes nothing.
-use mathlib.Core.Path.{◌≡◌, refl, sym, ◌∙◌}
+use mathlib.Core.Path.{◌≡◌, sym, ◌∙◌}
 use mathlib.Core.Bool.{true, false}
 use mathlib.Core.Logic.{⊎_elim}
 use mathlib.Core.List.{List, [], ◌∷◌, ◌++◌}
@@ -11,7 +11,7 @@ use lib.ListN.{length, get_or, take, drop, length-take, length-drop, get_or-eq_d
 use lib.Seq.{take-take, take-add, drop-drop, get_or-take, get_or-drop}
 use Rattle.curve.proofs.float.Grid.{lt_or_le}
 use Rattle.charger.proofs.Lists.{and_true}
-use Rattle.plan.specs.Bytes.{le_at, bytes, fields, pieces}
+use Rattle.plan.specs.Bytes.{le_at, bytes, pieces}
 use Rattle.plan.specs.Blocks.{sealed, passes, block, whole_blocks}
 use Rattle.plan.specs.Search.{every, holds}
 use Rattle.plan.proofs.bytes.Laws.{le_at_lt}
@@ -19,7 +19,7 @@ use Rattle.plan.proofs.bytes.Apart.{pieces_apart, fields_apart, pieces_same}
 use Rattle.plan.proofs.blocks.Laws.{whole_blocks_lem, passes-sealed, blocks_of}
 use Rattle.plan.proofs.fields.Laws.{zeros_hold, zeros-part}
 use Rattle.plan.proofs.SearchLaws.{every_at, holds_at, all_each}
-use Rattle.files.specs.BookSession.{no_session, Fits}
+use Rattle.files.specs.BookSession.{Fits}
 use Rattle.files.specs.SessionBlocks.{session_bytes, slot, session_block, session_blocks, session_of}
 use Rattle.files.specs.Book.{header_block, book_bytes, session_count, book_offset, sessions_in}
 use Rattle.files.specs.declared.book_session.BookSession.{BookSession}
@@ -27,15 +27,12 @@ use Rattle.book_reader.specs.SessionRules.{session_tests}
 use Rattle.book_reader.specs.Reader.{damaged, header_tests, session_ok, rest_ok, against_rules, contents_of}
 use Rattle.book_reader.specs.Accepted.{ByRules, bytes_of}
 use Rattle.files.proofs.SessionsIn.{session_in, sessions_each, session_count_lem, in_book, past_last}
+use Rattle.files.proofs.session_blocks.Laws.{no_session_bytes}
 
 -- a session's bytes are those of the session that is read there
 session_rebuilt : (s : List ℕ) → ((k : ℕ) → get_or s k 0 < 256) → 96 ≤ length s → take 96 s ≡ session_bytes (session_of s)
 unfolding session_bytes session_of
 session_rebuilt s byte h = sym (fields_apart (4 ∷ 4 ∷ 4 ∷ 1 ∷ 1 ∷ 2 ∷ 8 ∷ 8 ∷ 8 ∷ 8 ∷ 8 ∷ 8 ∷ 8 ∷ 8 ∷ 8 ∷ 8 ∷ []) s 0 byte h)
-
-pub no_session_bytes : session_bytes no_session ≡ bytes 96 0
-unfolding session_bytes no_session fields bytes
-no_session_bytes = refl
 
 -- a session that is read fits its widths
 session_fits : (s : List ℕ) → ((k : ℕ) → get_or s k 0 < 256) → Fits (session_of s)

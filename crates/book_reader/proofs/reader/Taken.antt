@@ -20,14 +20,13 @@ use Rattle.plan.proofs.blocks.Laws.{blocks_whole}
 use Rattle.plan.proofs.fields.Laws.{zeros_there, zeros-behind}
 use Rattle.plan.proofs.SearchLaws.{every_of}
 use Rattle.files.specs.BookSession.{no_session}
-use Rattle.files.specs.SessionBlocks.{slot, session_block, session_blocks, session_of}
+use Rattle.files.specs.SessionBlocks.{slot, length-slot, session_block, session_blocks, session_of}
 use Rattle.files.specs.Book.{header_block, book_bytes, written, book_offset, ReadBack}
 use Rattle.files.specs.declared.book_session.BookSession.{BookSession}
-use Rattle.files.proofs.session_blocks.Laws.{length-slot, session_back, block_at}
+use Rattle.files.proofs.session_blocks.Laws.{no_session_bytes, session_back, block_at}
 use Rattle.files.proofs.ReadBack.{header-length, length_book, book_session_at, book_back}
 use Rattle.book_reader.specs.Reader.{damaged, letters_ok, header_tests, session_ok, rest_ok, against_rules, Contents, contents_of, contents, test_answer, read_book}
 use Rattle.book_reader.specs.Accepted.{ByRules, bytes_of}
-use Rattle.book_reader.proofs.reader.Rebuilt.{no_session_bytes}
 
 letters_there : (engine ended used : ℕ) (xs : List BookSession) → letters_ok (book_bytes engine ended used xs) ≡ true
 unfolding book_bytes header_block sealed fields bytes

@@ -1,14 +1,12 @@
 -- Laws of `part i n l`, the members of l from i up to n, as a loop over an array meets them. They hold for members of any type.
 use mathlib.Core.Path.{◌≡◌, refl, sym, ◌∙◌}
-use mathlib.Core.Bool.{Bool}
-use mathlib.Core.List.{List, [], ◌∷◌, ◌++◌, map, map-append}
+use mathlib.Core.List.{List, [], ◌∷◌, ◌++◌}
 use Prim.Native.Nat.{ℕ, zero, suc, ◌+◌, ◌≤◌, ◌<◌}
 use native.Mathlib.Numerals.{add-one}
 use native.Mathlib.Nat.{not-suc-le-zero, le_of_suc-le-suc}
 use native.Mathlib.Omega.{arith}
-use lib.ListN.{length, length-map, get_or, take, drop, set, length-take, length-drop, take-append-drop, drop_of_length-le}
+use lib.ListN.{length, get_or, take, drop, set, length-take, length-drop, take-append-drop, drop_of_length-le}
 use lib.Seq.{length-take-le, take-append-le, drop-append-le, drop-cons, get_or-take, take-suc-set, take-suc}
-use Rattle.charger.specs.Lists.{tick, count}
 use Rattle.charger.specs.Code.Queue.{part}
 
 module _ {A : Type 0} where
@@ -34,19 +32,6 @@ module _ {A : Type 0} where
   pub take-set : (l : List A) (i : ℕ) (v : A) → i < length l → take (i + 1) (set l i v) ≡ take i l ++ (v ∷ [])
   take-set l i v h = rw add-one (take-suc-set l i v h)
 
--- one store more of a list that is filled from another
-pub map-step : {A : Type 0} {B : Type 0} (g : A → B) (l : List A) (a : List B) (i : ℕ) (d : A) (x : B) → i < length l → i < length a
-    → take i a ≡ map g (take i l) → x ≡ g (get_or l i d) → take (i + 1) (set a i x) ≡ map g (take (i + 1) l)
-map-step g l a i d x h k e p = take-set a i x k ∙ rw (e, p, take_more l i d h, map-append)
-
--- how many pass a test, as a loop over an array counts them
-module _ {A : Type 0} (test : A → Bool) (l : List A) (i n : ℕ) (d : A) where
-  pub count_on : i < n → i < length l → count test (part i n l) ≡ tick (test (get_or l i d)) + count test (part (i + 1) n l)
-  count_on h k = rw (part_next l i n d h k)
-
-  pub count_end : n ≤ i → count test (part i n l) ≡ 0
-  count_end h = rw (part_end l i n h)
-
 module _ {A : Type 0} where
   -- what lies within the first of two lists
   pub within_first : (l rest : List A) (j n : ℕ) → j + n ≤ length l → take n (drop j (l ++ rest)) ≡ take n (drop j l)
@@ -57,7 +42,3 @@ module _ {A : Type 0} where
   before_stays xs rest a j n h g =
       let long : length (take a xs) ≡ a = length-take-le a xs g in
       within_first (take a xs) rest j n (omega arith) ∙ sym (within_first (take a xs) (drop a xs) j n (omega arith)) ∙ rw take-append-drop
-
--- the length of an array of structs that is a struct's field: what owning it tells stands at `map` of the struct's own form
-pub length_mapped : (X Y : Type 0) (f : X → Y) (l : List X) (n : ℕ) → length (map f l) ≡ n → length l ≡ n
-length_mapped X Y f l n h = sym (length-map l f) ∙ h

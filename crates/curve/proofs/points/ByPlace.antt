@@ -40,6 +40,11 @@ pub reached_step : (s : Float) (p : Point) (l : List Point) → reached s (p ∷
 unfolding reached
 reached_step s p l = refl
 
+-- what is reached from the place i on, by the test of the point there
+pub reached_at : (s : Float) (ps : List Point) (i : ℕ) → i < length ps → {b : Bool} → lt s (get_or ps i past_end).soc ≡ b
+    → reached s (drop i ps) ≡ cond b 0 (suc (reached s (drop (i + 1) ps)))
+reached_at s ps i h t = rw (drop_more ps i past_end, reached_step, t)
+
 pub passed_step : (s : Float) (p : Point) (l : List Point) → passed s (p ∷ l) ≡ cond (not (le p.soc s)) 0 (suc (passed s l))
 unfolding passed
 passed_step s p l = go (le p.soc s) (suc (passed s l))

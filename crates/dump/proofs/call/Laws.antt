@@ -18,9 +18,7 @@ use Rattle.plan.specs.declared.answer.Refusal.{Refusal}
 use Rattle.plan.specs.declared.answer.Totals.{Totals}
 use Rattle.files.specs.Call.{answer_of, book_after}
 use Rattle.files.specs.Code.Reading.{Loaded}
-use Rattle.files.specs.Read.{read_plan, chargers_of, charger_of}
-use Rattle.files.specs.Code.Running.{Stopped}
-use Rattle.engine.specs.Demand.{by_events}
+use Rattle.files.specs.Read.{chargers_of, charger_of}
 use Rattle.plan.specs.Places.{charger_block, charger_count}
 use Rattle.plan.proofs.SearchLaws.{length-each}
 use Rattle.files.specs.Demand.{OfRun}
@@ -82,12 +80,6 @@ module _ {plan : List ℕ} {site : Site} (l : Loaded plan site) (state : State) 
   pub dump_shown : dump_bytes plan (model state) ≡ dump_of plan n
   unfolding dump_of
   dump_shown = ap (dump_bytes plan) (same ∙ ap (λ (q : Plan). D.run q n) l.read)
-
--- what the run left at its stop is what the plan's run leaves
-pub stopped_read : {plan : List ℕ} {site : Site} → Loaded plan site → (n m : ℕ) → n ≡ m → (old : List ℕ) (counts : Totals) (book : List ℕ)
-    → Stopped plan 0 (by_events (plan_of site) n) old counts book → Stopped plan 0 (by_events (read_plan plan) m) old counts book
-stopped_read {plan} {site} l n m e old counts book h =
-    subst (λ (k : ℕ). Stopped plan 0 (by_events (read_plan plan) k) old counts book) e (subst (λ (q : Plan). Stopped plan 0 (by_events q n) old counts book) l.read h)
 
 -- ---- what is known of a run that was not refused
 

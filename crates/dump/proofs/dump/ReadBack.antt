@@ -15,12 +15,12 @@ use Rattle.plan.specs.Search.{each}
 use Rattle.plan.proofs.bytes.Laws.{length-bytes, read_back, Begins, piece_at}
 use Rattle.plan.proofs.SearchLaws.{length-each, each_at, each_same}
 use Rattle.files.specs.BookSession.{book_sessions}
-use Rattle.files.specs.SessionBlocks.{slot, session_blocks}
-use Rattle.files.proofs.session_blocks.Laws.{length-slot, session_at_lem}
+use Rattle.files.specs.SessionBlocks.{slot, length-slot, session_blocks}
+use Rattle.files.proofs.session_blocks.Laws.{session_at_lem}
 use Rattle.dump.specs.EventBlocks.{event_bytes, event_slot, event_block, blocks_of_events, event_blocks}
 use Rattle.dump.specs.Dump.{queue_blocks, busy_blocks, is_busy, table, header_block, state_header, dump_bytes, event_count, event_at, events_in, session_count, session_at}
 use Rattle.dump.proofs.header.Laws.{length-table, length-header}
-use Rattle.dump.proofs.event_blocks.Laws as events
+use Rattle.dump.specs.EventBlocks as events
 use Rattle.dump.proofs.event_blocks.Laws.{length_event_block, length_event_blocks}
 use Rattle.dump.proofs.dump.Passes.{parts}
 

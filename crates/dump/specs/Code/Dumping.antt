@@ -1,6 +1,7 @@
 -- Refinement: what is asked of a call that lays a dump.
-use Rattle.std.specs.Prelude.{ℕ, ◌≤◌, ◌<◌, ◌≡◌, List, length}
-use Rattle.charger.specs.Lists.{All}
+use Rattle.std.specs.Prelude.{ℕ, ◌≤◌, ◌<◌, ◌≡◌, refl, List, [], ◌∷◌, length}
+use native.Mathlib.Bridge.{le_prop}
+use Rattle.charger.specs.Lists.{All, none, also}
 use Rattle.charger.specs.Code.Queue.{waiting}
 use Rattle.charger.specs.Code.Vehicles.{listed}
 use Rattle.engine.specs.declared.events.Event.{Event}
@@ -17,6 +18,11 @@ Near i = i < 65536
 
 abbrev pub NearEvent : Event → Type 0
 NearEvent e = (e.vehicle < 65536) × (e.charger < 65536)
+
+-- a proof of it is like any other
+pub near-one : (es : List Event) → IsProp (All NearEvent es)
+near-one [] none none = refl
+near-one (e ∷ es) (also p ps) (also q qs) = λ i. also (le_prop p.0 q.0 i, le_prop p.1 q.1 i) (near-one es ps qs i)
 
 abbrev pub NearCar : Occupant → Type 0
 NearCar no_car = Unit {0}

@@ -21,7 +21,7 @@ use Rattle.engine.specs.Demand.{is_arrival, arrives, anyone}
 use Rattle.engine.specs.Discrete as Discrete
 use Rattle.engine.specs.Discrete.{Occupant, no_car, car, is_vacant, events, charged_session, start, step}
 use Rattle.engine.specs.Code.Events.{Queued, Pops}
-use Rattle.engine.specs.Code.Simulation.{pending, booked, held, model, takes, FirstBelow, Starts, Changed, Becomes, Admits, Ready}
+use Rattle.engine.specs.Code.Simulation.{pending, booked, held, model, Takes, FirstBelow, Starts, Changed, Becomes, Admits, Ready}
 use Rattle.engine.proofs.site.Handlers.{starts, arrival_charges, arrival-turned, release_passes, release_frees}
 use Rattle.engine.proofs.site.Places.{free_at_get}
 use Rattle.engine.proofs.site.Simulations.{same_site, changed_site}
@@ -55,22 +55,22 @@ module _ (p : Plan) (time : ℕ) where
       }
 
   -- ---- an arrival
-  module _ (v c : ℕ) (free : List Bool) (x : Vehicle) (s : State) (full : length s.places.items ≡ length p.chargers)
-      (flags : (i : ℕ) → i < length s.places.items → get_or free i false ≡ is_vacant (get_or s.places.items i no_car)) (who : x ≡ vehicle p v) where
-    flagged : (i : ℕ) → i < length p.chargers → get_or free i false ≡ Rattle.engine.specs.SiteState.free_at p (events p) s.places.items i
-    flagged i h = flags i (omega arith) ∙ sym (free_at_get p (events p) s.places.items i no_car (omega arith))
+  module _ (v c : ℕ) (free : ℕ → Bool → Type 0) (x : Vehicle) (s : State) (full : length s.places.items ≡ length p.chargers)
+      (answers : (i : ℕ) (b : Bool) → i < length s.places.items → free i b → b ≡ is_vacant (get_or s.places.items i no_car)) (who : x ≡ vehicle p v) where
+    answered : (i : ℕ) (b : Bool) → i < length p.chargers → free i b → b ≡ Rattle.engine.specs.SiteState.free_at p (events p) s.places.items i
+    answered i b h a = answers i b (omega arith) a ∙ sym (free_at_get p (events p) s.places.items i no_car (omega arith))
 
-    pub arrives_charging : {r : State} (k : ℕ) → FirstBelow (takes free p.connectors x) (length p.chargers) (Some k) → Becomes (start_charging p (events p) time v k) s r
+    pub arrives_charging : {r : State} (k : ℕ) → FirstBelow (Takes free p.connectors x) (length p.chargers) (Some k) → Becomes (start_charging p (events p) time v k) s r
         → Becomes (handle p (events p) Arrival time v c) s r
-    arrives_charging k f b = becomes_as (arrival_charges p (events p) (held s) time v c free x flagged who k f) b
+    arrives_charging k f b = becomes_as (arrival_charges p (events p) (held s) time v c free x answered who k f) b
 
-    pub arrives-turned : {r : State} → FirstBelow (takes free p.connectors x) (length p.chargers) None
+    pub arrives-turned : {r : State} → FirstBelow (Takes free p.connectors x) (length p.chargers) None
         → Changed (turned v (waiting s.simulation.queue) (balks p.vehicles p.queue_places v (waiting s.simulation.queue))) s.simulation r.simulation → r.places ≡ s.places
         → Becomes (handle p (events p) Arrival time v c) s r
     arrives-turned {r} f b same =
         record {
           site = ap (λ (l : ArrayVec Occupant). Rattle.engine.specs.Code.Simulation.site_state r.simulation l.items) same
-              ∙ changed_site s.places.items b ∙ sym (arrival-turned p (events p) (held s) time v c free x flagged who f);
+              ∙ changed_site s.places.items b ∙ sym (arrival-turned p (events p) (held s) time v c free x answered who f);
           handled = ap (λ (q : Queued). q.handled) b.events;
         }
 

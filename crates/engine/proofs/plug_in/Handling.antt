@@ -23,7 +23,7 @@ use Rattle.power.specs.ChargerState.{is_free, empty}
 use Rattle.engine.specs.Timestep.{steps, open_session, plugged, due}
 use Rattle.engine.specs.Demand.{is_arrival, is_unplug, arrives, anyone}
 use Rattle.engine.specs.Code.Events.{Queued, Pops, PopsDue, is_due}
-use Rattle.engine.specs.Code.Simulation.{pending, booked, plan_of, takes, FirstBelow, Changed}
+use Rattle.engine.specs.Code.Simulation.{pending, booked, plan_of, Takes, FirstBelow, Changed}
 use Rattle.engine.specs.Code.Steps.{held, Running, Changes}
 use Rattle.engine.proofs.timestep.RunMoves.{pending_popped}
 use Rattle.engine.proofs.site.Simulations.{same_site}
@@ -114,26 +114,26 @@ fewer_turned v queue xs false = rw length-append (omega arith)
 
 -- ---- an arrival
 
-module _ (site : Site) (time v : ℕ) (free : List Bool) (x : Vehicle) (s : State) (f : Running site 1 s)
-    (flags : (i : ℕ) → i < length s.bank.items → get_or free i false ≡ is_free (get_or s.bank.items i empty).status) (who : x ≡ vehicle_at (listed site.vehicles) v) where
+module _ (site : Site) (time v : ℕ) (free : ℕ → Bool → Type 0) (x : Vehicle) (s : State) (f : Running site 1 s)
+    (answers : (i : ℕ) (b : Bool) → i < length s.bank.items → free i b → b ≡ is_free (get_or s.bank.items i empty).status) (who : x ≡ vehicle_at (listed site.vehicles) v) where
   abbrev p : Plan
   p = plan_of site
 
-  flagged : (i : ℕ) → i < length p.chargers → get_or free i false ≡ free_at p (steps p) s.bank.items i
-  flagged i h = flags i (omega (arith, f.places)) ∙ sym (free_at_get p (steps p) s.bank.items i empty (omega (arith, f.places)))
+  answered : (i : ℕ) (b : Bool) → i < length p.chargers → free i b → b ≡ free_at p (steps p) s.bank.items i
+  answered i b h a = answers i b (omega (arith, f.places)) a ∙ sym (free_at_get p (steps p) s.bank.items i empty (omega (arith, f.places)))
 
-  pub arrives_charging : {r : State} (k : ℕ) → FirstBelow (takes free p.connectors x) (length p.chargers) (Some k) → Changes site (λ t. start_charging t (steps t) time v k) s r
+  pub arrives_charging : {r : State} (k : ℕ) → FirstBelow (Takes free p.connectors x) (length p.chargers) (Some k) → Changes site (λ t. start_charging t (steps t) time v k) s r
       → Changes site (λ t. handle t (steps t) Arrival time v 0) s r
   arrives_charging k at d =
-      record { state = d.state ∙ sym (arrival_charges p (steps p) (held s) time v 0 free x flagged who k at); fit = d.fit; events = d.events }
+      record { state = d.state ∙ sym (arrival_charges p (steps p) (held s) time v 0 free x answered who k at); fit = d.fit; events = d.events }
 
-  pub arrives-turned : {r : State} → FirstBelow (takes free p.connectors x) (length p.chargers) None → v < 64
+  pub arrives-turned : {r : State} → FirstBelow (Takes free p.connectors x) (length p.chargers) None → v < 64
       → Changed (turned v (waiting s.simulation.queue) (balks p.vehicles p.queue_places v (waiting s.simulation.queue))) s.simulation r.simulation → r.bank ≡ s.bank
       → Changes site (λ t. handle t (steps t) Arrival time v 0) s r
   arrives-turned at small b same =
       let balk = balks p.vehicles p.queue_places v (waiting s.simulation.queue) in
       record {
-        state = changed_held site b same ∙ sym (arrival-turned p (steps p) (held s) time v 0 free x flagged who at);
+        state = changed_held site b same ∙ sym (arrival-turned p (steps p) (held s) time v 0 free x answered who at);
         fit = fit_changed site b same f (fewer_turned v (waiting s.simulation.queue) (booked s.simulation.sessions) balk) (small_turned small f.room.waits balk);
         events = b.events;
       }

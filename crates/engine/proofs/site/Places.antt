@@ -1,8 +1,5 @@
--- The list of the places below n, as a search of the places meets it, and the flags of those that are free.
-use Rattle.std.proofs.Common.{◌≡◌, ℕ, zero, suc, ◌+◌, ◌<◌, Bool, true, false, List, [], ◌∷◌, length, get_or, set, refl, ap, ◌∙◌, ⊎_elim, le_of_suc-le-suc, not-suc-le-zero, eq-or-lt_of_le, arith, length-append, le-ltb, lt-ltb, get_or-set_other, get_or-set_same}
-use Rattle.std.specs.Prelude.{Some, None, not}
-use Rattle.std.specs.Option.{is_some}
-use Rattle.engine.specs.Discrete.{Occupant, is_vacant}
+-- The list of the places below n, as a search of the places meets it, and those that are free.
+use Rattle.std.proofs.Common.{◌≡◌, ℕ, zero, suc, ◌+◌, ◌<◌, Bool, true, false, List, [], ◌∷◌, length, get_or, refl, ap, ◌∙◌, ⊎_elim, le_of_suc-le-suc, not-suc-le-zero, eq-or-lt_of_le, arith, length-append, le-ltb, lt-ltb}
 use Rattle.std.specs.List.{position_or_len, remove}
 use Rattle.std.proofs.lemmas.List.Sums.{position_or_len_is}
 use lib.ListN.{get_or-append}
@@ -39,25 +36,14 @@ module _ (test : ℕ → Bool) (n : ℕ) where
       first_at test (below n) 0
       ∙ rw (lt-ltb (position_or_len test (below n)) (length (below n)) (omega (arith, here, length-below n))) (ap (λ (i : ℕ). found (get_or (below n) i 0) (remove (below n) i)) here ∙ ap (λ (v : ℕ). found v (remove (below n) c)) (place_at n c l))
 
--- ---- the flags of the free chargers
+-- what holds below n and at n
+pub one_more : {P : ℕ → Type 0} (n : ℕ) → ((k : ℕ) → k < n → P k) → P n → (k : ℕ) → k < n + 1 → P k
+one_more {P} n h e k l = ⊎_elim (λ (q : k ≡ n). rw q e) (λ (m : k < n). h k m) (eq-or-lt_of_le (omega arith))
 
-pub flags_more : (free : List Bool) (test : ℕ → Bool) (i : ℕ) (b : Bool) → i < length free → b ≡ test i → ((j : ℕ) → j < i → get_or free j false ≡ test j)
-    → (j : ℕ) → j < i + 1 → get_or (set free i b) j false ≡ test j
-flags_more free test i b h e k j l =
-    ⊎_elim
-    (λ (q : j ≡ i). rw (q, get_or-set_same free i b false h) e)
-    (λ (m : j < i). get_or-set_other free i j b false (λ (q : j ≡ i). omega arith) ∙ k j m)
-    (eq-or-lt_of_le (omega arith))
+-- ---- the free chargers
 
 -- a charger is free by what stands there
 pub free_at_get : (p : Plan) {A : Type 0} (g : Engine A) (l : List A) (i : ℕ) (d : A) → i < length l → free_at p g l i ≡ g.is_free (get_or l i d)
 free_at_get p g [] i d h = absurd (omega arith)
 free_at_get p g (s ∷ l) zero d h = refl
 free_at_get p g (s ∷ l) (suc i) d h = free_at_get p g l i d (omega arith)
-
--- who stands nowhere, as the code asks it
-pub vacant_none : (o other : Occupant) (b : Bool) → o ≡ other → is_some o ≡ not b → b ≡ is_vacant other
-vacant_none o None true e h = refl
-vacant_none o None false e h = rw e at h
-vacant_none o (Some v) true e h = rw e at h
-vacant_none o (Some v) false e h = refl

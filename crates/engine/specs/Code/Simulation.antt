@@ -52,14 +52,14 @@ plan_of site =
       queue_places = site.vehicles.queue_places;
     }
 
--- the charger is free and fits the vehicle
-abbrev pub takes : List Bool → List (List Bool) → Vehicle → ℕ → Bool
-takes free rows x c = slice_index_or free c false && compatible (row_at rows c) x
+-- whether the charger is free, as `free` answers of it, and fits the vehicle
+abbrev pub Takes : (ℕ → Bool → Type 0) → List (List Bool) → Vehicle → ℕ → Bool → Type 0
+Takes free rows x c b = (is_free : Bool) × free c is_free × (b ≡ (is_free && compatible (row_at rows c) x))
 
--- the first place below n that passes the test, if one does
-abbrev pub FirstBelow : (ℕ → Bool) → ℕ → Option ℕ → Type 0
+-- the first place below n of which the test answers yes, if it does of one
+abbrev pub FirstBelow : (ℕ → Bool → Type 0) → ℕ → Option ℕ → Type 0
 FirstBelow test n found =
-    MatchOption found ((k : ℕ) → k < n → test k ≡ false) (λ c. (c < n) × (test c ≡ true) × ((k : ℕ) → k < c → test k ≡ false))
+    MatchOption found ((k : ℕ) → k < n → test k false) (λ c. (c < n) × test c true × ((k : ℕ) → k < c → test k false))
 
 -- document 01's limits on times
 abbrev pub InTime : Vehicle → Type 0

@@ -31,13 +31,12 @@ use Rattle.plan.specs.Plan.{id_at, with_id, check_blocks}
 use Rattle.files.specs.Read.{read_plan, vehicle_in, vehicles_of, connector_rows}
 use Rattle.files.specs.BookSession.{vehicle_number, entry, book_sessions, has_id, no_session}
 use Rattle.files.specs.Book.{book_bytes, written, session_count, book_offset, session_at, outcome_at, outcomes_of, sessions_in}
-use Rattle.files.specs.SessionBlocks.{slot, session_bytes, session_of, sessions_from}
+use Rattle.files.specs.SessionBlocks.{slot, length-slot, session_bytes, session_of, sessions_from}
 use Rattle.files.specs.Call.{stop_of}
 use Rattle.files.specs.declared.book_session.BookSession.{BookSession}
 use Rattle.plan.proofs.SearchLaws.{first_missed, length-each, each_at}
 use Rattle.plan.proofs.blocks.Laws.{block_read}
 use Rattle.plan.proofs.bytes.Laws.{Begins, le_at-drop}
-use Rattle.files.proofs.session_blocks.Laws.{length-slot}
 use Rattle.files.proofs.ReadBack.{book_session_at, count-written}
 use Rattle.files.proofs.read.Accepted.{counted, vehicle_rule, kind_vehicle}
 use Rattle.std.specs.Prelude.{Ok}

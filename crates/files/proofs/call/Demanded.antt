@@ -120,10 +120,6 @@ pub record Promises (plan : List ℕ) (engine n : ℕ) (book : List ℕ) (r : Re
   pub carried : FleetsCarried plan book r
   pub no_fleets : AsBefore plan r
 
--- nothing is promised of a refused call
-pub unpromised : (plan : List ℕ) (engine n : ℕ) (book : List ℕ) (x : Refusal) → Promises plan engine n book (Err x)
-unpromised plan engine n book x = record { back = tt; units = tt; free = tt; settled = tt; spots = tt; ids = tt; counts = tt; outcomes = tt; closed = tt; waits = tt; handled = tt; events = tt; steps = tt; hot_day = tt; rating = tt; fleets = tt; carried = tt; no_fleets = tt }
-
 -- the bytes of the book
 pub book_bytes_lem : (plan : List ℕ) (engine n : ℕ) (old book : List ℕ) (r : Result Totals Refusal) → book ≡ book_after plan engine n r old
     → OfRun (λ t. book ≡ written (book_of plan engine (stop_of (read_plan plan) engine n)) old) r

@@ -16,22 +16,25 @@ use Rattle.charger.proofs.Lists.{all_map}
 use Rattle.engine.specs.declared.session.Session.{Session}
 use Rattle.engine.specs.declared.site.Site.{Site}
 use Rattle.charger.specs.Code.Vehicles.{listed}
-use Rattle.engine.specs.Code.Simulation.{InTime}
+use Rattle.engine.specs.Code.Simulation.{InTime, plan_of}
 use Rattle.engine.specs.Plan.{Plan}
-use Rattle.power.specs.Code.Bank.{Rising}
+use Rattle.power.specs.Code.Rising.{Rising}
 use Rattle.files.specs.Code.Reading.{Loaded, Admitted, Counted}
 use Rattle.files.specs.Read.{read_plan, points_of, curve_of_profile, vehicle_in, vehicles_of}
 use Rattle.plan.specs.Places.{profile_block, profile_count, vehicle_count}
 use Rattle.plan.proofs.SearchLaws.{length-each}
 use Rattle.files.specs.Code.Writing.{Writable}
 use Rattle.files.specs.Call.{stop_of, totals, if_fine, answer_of}
-use Rattle.files.specs.Code.Running.{Runnable}
+use Rattle.files.specs.Code.Running.{Runnable, Stopped, engine_number}
+use Rattle.files.specs.declared.engines.Engine.{Engine}
+use Rattle.files.specs.declared.engines.Engine.TheVariants.{Events, Steps}
 use Rattle.files.specs.Check.{check_plan}
 use Rattle.plan.specs.declared.answer.Refusal.TheVariants.{EngineAbove, AllowanceAbove, BookUnder}
 use Rattle.files.proofs.read.Accepted.{counted, in_time, profiles_named}
 use Rattle.files.proofs.read.Within.{points-within}
 use Rattle.std.specs.Prelude.{Result, Ok, Err}
 use Rattle.plan.specs.declared.answer.Refusal.{Refusal}
+use Rattle.plan.specs.declared.answer.Totals.{Totals}
 
 -- ---- what the plan's checks give
 
@@ -60,10 +63,21 @@ module _ {plan : List ℕ} {site : Site} (l : Loaded plan site) where
 
   pub rising : Rising site.curves site.lens
   unfolding curve_of_profile
-  rising = record { rises = λ k. rw (ap (λ (p : Plan). p.curve k) l.read) (rising_at k (ltb k (profile_count plan)) refl) }
+  rising = λ k. rw (ap (λ (p : Plan). p.curve k) l.read) (rising_at k (ltb k (profile_count plan)) refl)
 
   pub writable : (xs : List Session) (book : List ℕ) → length xs ≤ 64 → 7168 ≤ length book → Writable plan site xs book
   writable xs book h k = record { counted = counted plan l.admitted; vehicles = ap (λ (p : Plan). p.vehicles) l.read; connectors = ap (λ (p : Plan). p.connectors) l.read; sessions = h; room = k }
+
+-- what a run of the site left at its stop is what the plan's run leaves
+pub stopped_read : {plan : List ℕ} {site : Site} → Loaded plan site → (engine n m : ℕ) → n ≡ m → (old : List ℕ) (counts : Totals) (book : List ℕ)
+    → Stopped plan engine (stop_of (plan_of site) engine n) old counts book → Stopped plan engine (stop_of (read_plan plan) engine m) old counts book
+stopped_read {plan} {site} l engine n m e old counts book h =
+    subst (λ (k : ℕ). Stopped plan engine (stop_of (read_plan plan) engine k) old counts book) e (subst (λ (q : Plan). Stopped plan engine (stop_of q engine n) old counts book) l.read h)
+
+-- an engine's number is 0 or 1
+pub engine_known : (e : Engine) (number : ℕ) → engine_number e ≡ number → number ≤ 1
+engine_known Events number h = omega (arith, h)
+engine_known Steps number h = omega (arith, h)
 
 -- ---- the answer, by the tests in their order
 

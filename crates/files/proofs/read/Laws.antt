@@ -3,17 +3,17 @@ use mathlib.Core.Path.{◌≡◌, refl, sym, ◌∙◌}
 use mathlib.Core.Bool.{Bool, true, false}
 use mathlib.Core.Logic.{inl, inr}
 use mathlib.Core.List.{List, ◌++◌}
-use Prim.Native.Nat.{ℕ, ◌+◌, ◌-◌, ◌*◌, ◌≤◌, ◌<◌}
-use native.Mathlib.Nat.{zero-add, eq-or-lt_of_le}
+use Prim.Native.Nat.{ℕ, zero, suc, ◌+◌, ◌-◌, ◌*◌, ◌≤◌, ◌<◌}
+use native.Mathlib.Nat.{zero-add, add-zero, add-suc, eq-or-lt_of_le}
 use native.Mathlib.Omega.{arith}
 use borrow.Author.Tests.{ltb-true, ltb-false, le-ltb}
 use lib.Dec.{ltb}
 use lib.ListN.{length, get_or, take, drop, set, get_or-eq_default}
-use lib.Seq.{take_all, length-take-le, take-append-le, drop_at, get_or-set_same, get_or-set_other}
+use lib.Seq.{drop-cons, take_all, length-take-le, take-append-le, drop_at, get_or-set_same, get_or-set_other}
 use Rattle.curve.specs.declared.units.Kwh.{Kwh}
 use Rattle.charger.specs.Code.Profiles.{curve_at}
 use Rattle.charger.proofs.waiting_queue.Part.{before_stays}
-use Rattle.charger.proofs.charge_profile_list.Profiles.{inside, past}
+use Rattle.charger.proofs.charge_profile_list.Table.{inside, past}
 use Rattle.plan.proofs.SearchLaws.{each_at}
 use Rattle.plan.specs.Search.{each}
 use Rattle.plan.specs.Places.{profile_count}
@@ -62,3 +62,12 @@ all_curves plan curves lens p a b h k = by (ltb k 16) (ltb-true k 16) (ltb-false
         let size : 32 * k + n - 32 * k ≡ n = omega arith in
         inside curves lens k (32 * k + n) (omega (arith, f refl)) refl (omega (arith, f refl, (h k (f refl)).0)) ∙ rw size (h k (f refl)).1
     by false f g = past curves lens k (omega (arith, g refl)) ∙ rw (le-ltb k (profile_count plan) (omega (arith, g refl)))
+
+bytes_on : (b : List ℕ) (at k m : ℕ) → at + k + m ≤ length b → take m (drop (at + k) b) ≡ each (λ j. get_or b (at + j) 0) k m
+unfolding each
+bytes_on b at k zero h = refl
+bytes_on b at k (suc m) h = rw (drop-cons b (at + k) 0 (omega arith), ← add-suc, bytes_on b at (suc k) m (omega arith))
+
+-- bytes that lie one behind the other, each by its place
+pub bytes_from : (b : List ℕ) (at m : ℕ) → at + m ≤ length b → take m (drop at b) ≡ each (λ j. get_or b (at + j) 0) 0 m
+bytes_from b at m h = rw add-zero at (bytes_on b at 0 m (omega arith))

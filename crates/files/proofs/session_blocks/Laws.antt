@@ -1,63 +1,34 @@
 -- Laws of blocks of sessions: as they are stored, and as they are read back from any place of a file on. Assumes nothing.
-use mathlib.Core.Path.{◌≡◌, refl, sym, ◌∙◌}
+use mathlib.Core.Path.{◌≡◌, refl, sym}
 use mathlib.Core.Bool.{true}
 use mathlib.Core.List.{List, ◌++◌, append_assoc}
-use Prim.Native.Nat.{ℕ, zero, suc, ◌+◌, ◌*◌, ◌/◌, ◌%◌, ◌≤◌, ◌<◌}
-use native.Mathlib.Nat.{add_assoc, add-zero, zero-add}
+use Prim.Native.Nat.{ℕ, zero, suc, ◌+◌, ◌*◌, ◌/◌, ◌%◌, ◌<◌}
+use native.Mathlib.Nat.{zero-add}
 use native.Mathlib.Omega.{arith}
-use Rattle.std.proofs.lemmas.List.{get_or-drop}
-use lib.ListN.{length, get_or, take, drop, length-append, drop_of_length-le}
-use lib.Seq.{sets, drop-cons, drop_at, drop-drop}
+use Rattle.std.proofs.Common.{lit≤}
+use lib.ListN.{length, get_or, drop, drop_of_length-le}
+use lib.Seq.{drop-cons, drop_at, drop-drop}
 use Rattle.charger.specs.Lists.{All}
 use Rattle.charger.proofs.Lists.{all_at}
 use Rattle.plan.specs.Bytes.{le_at, bytes, fields, pieces}
 use Rattle.plan.specs.Blocks.{check_of, sealed, passes}
 use Rattle.files.specs.BookSession.{no_session, Fits}
-use Rattle.files.specs.SessionBlocks.{session_bytes, slot, session_block, session_blocks, session_offset, session_of, sessions_from}
+use Rattle.files.specs.SessionBlocks.{session_bytes, slot, length-slot, session_block, session_blocks, session_offset, session_of, sessions_from}
 use Rattle.files.specs.declared.book_session.BookSession.{BookSession}
-use Rattle.plan.proofs.bytes.Laws.{sets_append, length-bytes, length-pieces, read_back, Begins, piece_at}
-use Rattle.plan.proofs.blocks.Laws.{put_sealed, length-sealed, sealed-passes}
+use Rattle.plan.proofs.bytes.Laws.{length-pieces, read_back, Begins, piece_at}
+use Rattle.plan.proofs.records.Laws.{length_block, block_passes}
 
-pub length_session : (x : BookSession) → length (session_bytes x) ≡ 96
-unfolding session_bytes fields bytes
-length_session x = refl
-
-pub length-slot : (xs : List BookSession) (k : ℕ) → length (slot xs k) ≡ 96
-unfolding slot
-length-slot xs k = length_session (get_or xs k no_session)
-
-pub body_length : (xs : List BookSession) (k : ℕ) → length (pieces (slot xs) k 5 ++ bytes 28 0) ≡ 508
-body_length xs k = rw (length-append, length-pieces (slot xs) 96 (length-slot xs) k 5, length-bytes)
-
--- a block of five sessions is stored in its parts
-pub put_block : (s a b r : List ℕ) (at : ℕ) (five : List BookSession) (place : ℕ) → at + 512 ≤ length s
-    → a ≡ sets s at (pieces (slot five) 0 5) → b ≡ sets a (at + 480) (bytes 28 0)
-    → r ≡ sets b (at + 508) (bytes 4 (check_of place (take 508 (drop at b)))) → r ≡ sets s at (sealed place (pieces (slot five) 0 5 ++ bytes 28 0))
-put_block s a b r at five place h p q u =
-    put_sealed s b r at place _ (body_length five 0) (omega arith)
-    (q ∙ rw (p, sets_append s at (pieces (slot five) 0 5), length-pieces (slot five) 96 (length-slot five) 0 5)) u
-
--- the slots of what follows the first n sessions
-slot_drop : (xs : List BookSession) (n k : ℕ) → slot (drop n xs) k ≡ slot xs (n + k)
-unfolding slot
-slot_drop xs n k = rw get_or-drop
-
-pieces_drop : (xs : List BookSession) (n k m : ℕ) → pieces (slot (drop n xs)) k m ≡ pieces (slot xs) (n + k) m
-unfolding pieces
-pieces_drop xs n k zero = refl
-pieces_drop xs n k (suc m) = rw (slot_drop xs n k, pieces_drop xs n (k + 1) m, ← add_assoc n k 1)
-
--- the block that is made of what follows the first 5 j sessions
-pub block_of_rest : (place : ℕ) (xs : List BookSession) (j : ℕ) → sealed (place + j) (pieces (slot (drop (5 * j) xs)) 0 5 ++ bytes 28 0) ≡ session_block place xs j
-unfolding session_block
-block_of_rest place xs j = rw (pieces_drop xs (5 * j) 0 5, add-zero)
+-- zero bytes stand where there is none
+pub no_session_bytes : session_bytes no_session ≡ bytes 96 0
+unfolding session_bytes no_session fields bytes
+no_session_bytes = refl
 
 -- ---- the blocks of sessions of a file, the first of them at a place
 
 module _ (place : ℕ) (xs : List BookSession) where
   pub length_session_block : (j : ℕ) → length (session_block place xs j) ≡ 512
   unfolding session_block
-  length_session_block j = length-sealed _ _ (body_length xs (5 * j))
+  length_session_block = length_block (slot xs) 96 (length-slot xs) 5 place (lit≤ tt)
 
   pub length_session_blocks : length (session_blocks place xs) ≡ 512 * ((length xs + 4) / 5)
   unfolding session_blocks
@@ -65,7 +36,7 @@ module _ (place : ℕ) (xs : List BookSession) where
 
   pub session_block-passes : (j : ℕ) → passes (place + j) (session_block place xs j) ≡ true
   unfolding session_block
-  session_block-passes j = sealed-passes (place + j) _ (body_length xs (5 * j))
+  session_block-passes = block_passes (slot xs) 96 (length-slot xs) 5 place (lit≤ tt)
 
 -- a session that is written is read back
 pub session_back : (x : BookSession) (r : List ℕ) → Fits x → session_of (session_bytes x ++ r) ≡ x

@@ -1,11 +1,10 @@
 -- Laws of little-endian numbers, of fields and of runs of stores. Assumes nothing.
 use Rattle.std.proofs.Common.{◌≡◌, ℕ, zero, suc, ◌+◌, ◌-◌, ◌*◌, ◌/◌, ◌%◌, ◌^◌, ◌<◌, ◌≤◌, List, [], ◌∷◌, ◌++◌, length, get_or, take, drop, set, refl, ap, append_assoc, append-nil, lt_of_lt_of_le, add-zero, add-suc, suc-add, pow-suc, mul-zero, mul-suc, add-one, arith, lit<, length-append, get_or-drop, drop-cons, get_or-take, drop-drop, get_or-append-add, drop_at}
 use native.Mathlib.Nat.{pow-le-pow_right}
-use native.Mathlib.Numerals.{add-two}
 use lib.ListN.{get_or-append}
 use lib.Seq.{sets, sets-eq}
 use borrow.Rule.Slice.PartMut.{put_mid}
-use Rattle.plan.specs.Bytes.{le_at, bytes, fields, pieces}
+use Rattle.plan.specs.Bytes.{le_at, bytes, fields, in_a_row, pieces}
 
 -- ---- a number that is read
 
@@ -116,28 +115,21 @@ sets_append l i (x ∷ a) b = rw (sets_append (set l i x) (suc i) a b, suc-add, 
 
 -- ---- fields, one after the other
 
-fields-drop : (f : List ℕ) (i : ℕ) → 1 < length f - i
-    → fields (drop i f) ≡ bytes (get_or f i 0) (get_or f (i + 1) 0) ++ fields (drop (i + 2) f)
+fields-drop : (f : List (ℕ × ℕ)) (i : ℕ) → i < length f
+    → fields (in_a_row (drop i f)) ≡ bytes (get_or f i (0, 0)).0 (get_or f i (0, 0)).1 ++ fields (in_a_row (drop (i + 1) f))
 unfolding fields
-fields-drop f i h =
-    rw (drop-cons f i 0 (omega arith), drop-cons f (suc i) 0 (omega arith), add-one, add-two)
+fields-drop f i h = rw (drop-cons f i (0, 0) (omega arith), add-one)
 
 -- one field more of a run of stores
-pub fields-step : (s t f : List ℕ) (p i : ℕ) → 1 < length f - i → sets s p (fields (drop i f)) ≡ t
-    → sets (sets s p (bytes (get_or f i 0) (get_or f (i + 1) 0))) (p + get_or f i 0) (fields (drop (i + 2) f)) ≡ t
+pub fields-step : (s t : List ℕ) (f : List (ℕ × ℕ)) (p i : ℕ) → i < length f → sets s p (fields (in_a_row (drop i f))) ≡ t
+    → sets (sets s p (bytes (get_or f i (0, 0)).0 (get_or f i (0, 0)).1)) (p + (get_or f i (0, 0)).0) (fields (in_a_row (drop (i + 1) f))) ≡ t
 fields-step s t f p i h e =
     rw (fields-drop f i h, sets_append, length-bytes) at e
 
 -- what is left to store, with one field less
-pub fields_left : (f : List ℕ) (i : ℕ) → 1 < length f - i → length (fields (drop i f)) ≡ get_or f i 0 + length (fields (drop (i + 2) f))
+pub fields_left : (f : List (ℕ × ℕ)) (i : ℕ) → i < length f
+    → length (fields (in_a_row (drop i f))) ≡ (get_or f i (0, 0)).0 + length (fields (in_a_row (drop (i + 1) f)))
 fields_left f i h = rw (fields-drop f i h, length-append, length-bytes)
-
--- nothing is left
-pub fields_end : (f : List ℕ) → length f ≤ 1 → fields f ≡ []
-unfolding fields
-fields_end [] h = refl
-fields_end (n ∷ []) h = refl
-fields_end (n ∷ v ∷ f) h = absurd (omega arith)
 
 -- ---- pieces of one length
 

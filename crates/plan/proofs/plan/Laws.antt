@@ -1,13 +1,12 @@
 -- Laws of the kinds of a plan's blocks and of the table of refusals. Assumes nothing.
-use Rattle.std.proofs.Common.{◌≡◌, ℕ, zero, suc, ◌+◌, ◌*◌, ◌<◌, ◌≤◌, Bool, true, false, cond, not, Some, None, Result, Err, List, length, get_or, take, drop, sym, refl, ◌∙◌, inl, inr, add-one, arith, eqb, eq-eqb, ne_eqb, eq-or-lt_of_le, drop-cons, le-ltb, lt-ltb, le-leb}
+use Rattle.std.proofs.Common.{◌≡◌, ℕ, zero, suc, ◌+◌, ◌*◌, ◌<◌, ◌≤◌, Bool, true, false, cond, not, Some, None, Result, Err, List, length, get_or, take, drop, sym, refl, ◌∙◌, inl, inr, zero-add, add-one, length-take-le, get_or-take, arith, eqb, eq-eqb, ne_eqb, eq-or-lt_of_le, drop-cons, le-ltb, lt-ltb, le-leb}
 use lib.Dec.{eqb-suc-zero}
 use lib.Ieee.{Float, nan}
 use Rattle.plan.specs.Bytes.{le_at}
-use Rattle.plan.specs.Search.{first_index, short_of, each}
+use Rattle.plan.specs.Search.{first_index, short_of, every, each}
 use Rattle.plan.specs.Fields.{f64_at}
 use Rattle.plan.specs.Code.Socs.{new_among}
 use Rattle.plan.specs.Plan.{new_soc, broken, first_refusal}
-use Rattle.plan.specs.Blocks.{whole_blocks}
 use Rattle.plan.specs.Places.{kind_at, is_vehicle}
 use Rattle.plan.specs.declared.places.Kind.{Kind}
 use Rattle.plan.specs.declared.places.Kind.TheVariants.{Header, Profile, Charger, Vehicle}
@@ -18,8 +17,7 @@ use Rattle.plan.specs.declared.answer.Rule.{Rule}
 use Rattle.plan.specs.declared.answer.Rule.TheVariants.{Length}
 use Rattle.plan.specs.declared.answer.Refusal.{Refusal}
 use Rattle.plan.specs.declared.answer.Refusal.TheVariants.{Broken}
-use Rattle.plan.proofs.blocks.Laws.{whole_blocks_lem}
-use Rattle.plan.proofs.SearchLaws.{every_same, fill_at}
+use Rattle.plan.proofs.SearchLaws.{every_same, each_at}
 
 -- the vehicles come after the profiles
 pub no_vehicle_lem : (plan : List ℕ) (k : ℕ) → k < 1 + le_at 2 plan 4 → is_vehicle (kind_at plan k) ≡ false
@@ -32,11 +30,18 @@ abbrev pub soc_at : List ℕ → ℕ → Float
 soc_at b j = f64_at b (16 + 16 * j)
 
 -- of the SOCs that are read, the i-th is new where the i-th point's is
-pub new_read : (b : List ℕ) (socs : List Float) (n i : ℕ) → take n socs ≡ each (soc_at b) 0 n → i < n → new_among socs i ≡ new_soc b i
+new_read : (b : List ℕ) (socs : List Float) (i : ℕ) → socs ≡ each (soc_at b) 0 (length socs) → i < length socs
+    → new_among (take i socs) (get_or socs i nan) ≡ new_soc b i
 unfolding new_among new_soc
-new_read b socs n i e h =
-    let read : (j : ℕ) → j < n → get_or socs j nan ≡ soc_at b j = λ j l. fill_at (soc_at b) socs n j nan e l in
-    every_same _ _ 0 i (λ j a l. rw (read j (omega arith), read i h))
+new_read b socs i e h =
+    let read : (j : ℕ) → j < length socs → get_or socs j nan ≡ soc_at b j = λ j l. rw e (each_at (soc_at b) 0 (length socs) j nan l ∙ rw zero-add) in
+    let long : length (take i socs) ≡ i = length-take-le i socs (omega arith) in
+    rw long
+    (every_same _ _ 0 i (λ j a l. rw (get_or-take i socs j nan (omega arith), read j (omega arith), read i h)))
+
+pub all_read : (b : List ℕ) (socs : List Float) (n : ℕ) → length socs ≡ n → socs ≡ each (soc_at b) 0 n
+    → every (λ i. new_among (take i socs) (get_or socs i nan)) 0 n ≡ every (new_soc b) 0 n
+all_read b socs n long e = every_same _ _ 0 n (λ i a l. new_read b socs i (rw long e) (omega arith))
 
 -- the test of a block's kind
 pub vehicle_test : (k : Kind) → sameb the_type k Vehicle ≡ is_vehicle k
@@ -77,7 +82,3 @@ module _ (rs : List Rule) (plan : List ℕ) (n i : ℕ) (r : Rule) (h : i < leng
   pub refusal_miss : short_of (first_index (broken r plan) 0 n) n ≡ None → first_refusal (drop i rs) plan n ≡ first_refusal (drop (i + 1) rs) plan n
   unfolding first_refusal
   refusal_miss e = rw (drop-cons rs i Length h, ← p, add-one i) (miss _ _ _ e)
-
--- a plan that is not refused by its length has at most 113 blocks
-pub length_limit : (n : ℕ) → whole_blocks n 113 ≡ true → n ≤ 57856
-length_limit n e = let w = whole_blocks_lem n 113 e in omega arith

@@ -32,13 +32,6 @@ all_free-append (s ∷ ss) xs = go (is_free s.status) (all_free-append ss xs)
     go true e = e
     go false e = refl
 
-pub all_free_snoc : (ss : List ChargerState) (s : ChargerState) → all_free (ss ++ (s ∷ [])) ≡ (all_free ss && is_free s.status)
-all_free_snoc ss s = rw (all_free-append ss (s ∷ []), alone (is_free s.status))
-  where
-    alone : (b : Bool) → (b && true) ≡ b
-    alone true = refl
-    alone false = refl
-
 pub any_append : (b : Bool) (ss xs : List ChargerState) → any_finished b (ss ++ xs) ≡ any_finished (any_finished b ss) xs
 any_append b [] xs = refl
 any_append b (s ∷ ss) xs = any_append (or_finished b s) ss xs

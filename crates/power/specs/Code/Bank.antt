@@ -1,18 +1,10 @@
 -- Refinement: the bank, the states of all chargers in a lent slice.
 use Rattle.std.specs.Prelude.{◌≡◌, Bool, true, List, [], ◌∷◌, ◌⊎◌, ℕ, ◌+◌, get_or, Float}
-use Rattle.std.specs.Float.Ieee.{le}
-use Rattle.curve.specs.Code.Rising.{Rises}
-use Rattle.charger.specs.Code.Profiles.{curve_at}
-use Rattle.curve.specs.declared.points.Point.{Point}
 use Rattle.power.specs.declared.charger_state.ChargerState.{ChargerState}
 use Rattle.power.specs.ChargerState.{is_free, empty, with_cap, progress}
 use Rattle.power.specs.Power.{active, cap_of}
 use Rattle.power.specs.Code.Rounds.{Spun}
 use Rattle.power.specs.declared.power.Spun as D
-
--- every profile's curve rises by SOC
-pub record Rising (curves : List Point) (lens : List ℕ) : Type 0 where
-  pub rises : (k : ℕ) → Rises le (curve_at curves lens k)
 
 -- whether the charger at the place i has no car
 abbrev pub vacant_at : List ChargerState → ℕ → Bool

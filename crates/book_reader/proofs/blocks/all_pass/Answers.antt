@@ -1,15 +1,8 @@
 use mathlib.Core.Path.{sym, ◌∙◌}
-use native.Mathlib.Nat.{sub-zero}
 use native.Mathlib.Omega.{arith}
 use Rattle.plan.proofs.SearchLaws.{every_again, every-broken, every_end}
 use Rattle.book_reader.proofs.blocks.all_pass.Invariants.{passing}
 use Rattle.book_reader.proofs.blocks.all_pass.Goals as goal
-
-pub loop-k-init : goal.loop-k-init
-loop-k-init c = rw sub-zero
-
-pub passes-requires : goal.passes-requires
-passes-requires c = omega arith
 
 pub returns-then-not-passes : goal.returns-then-not-passes
 returns-then-not-passes c =

@@ -1,7 +1,8 @@
-use mathlib.Core.Path.{◌≡◌, refl, ◌∙◌}
+use mathlib.Core.Path.{◌≡◌, ◌∙◌}
 use Prim.Native.Nat.{◌-◌, ◌*◌}
 use native.Mathlib.Nat.{zero-add}
 use native.Mathlib.Omega.{arith}
+use borrow.Author.Rules.{rules}
 use Rattle.plan.specs.Bytes.{pieces}
 use Rattle.plan.proofs.bytes.Laws.{pieces_step}
 use Rattle.files.specs.Book.{sessions_in}
@@ -9,19 +10,10 @@ use Rattle.book_reader.specs.Reader.{numbers_at}
 use Rattle.book_reader.proofs.numbers.Laws.{length-numbers, all_stored}
 use Rattle.book_reader.proofs.numbers.put_sessions.Goals as goal
 
-pub loop-k-init : goal.loop-k-init
-loop-k-init c = (omega arith, (c.requires.1, refl))
-
-pub overflow_mul-k : goal.overflow_mul-k
-overflow_mul-k c = omega arith
-
-pub put_numbers-requires : goal.put_numbers-requires
-put_numbers-requires c = omega arith
-
 pub loop-k-preserved : goal.loop-k-preserved
 unfolding numbers_at
 loop-k-preserved c =
-    let xs = sessions_in c.args.book.now in (
+    let xs = sessions_in c.args.sessions.book.now in (
       omega arith,
       (
         omega arith,
@@ -30,11 +22,8 @@ loop-k-preserved c =
       ),
     )
 
-pub shape_of-out : goal.shape_of-out
-shape_of-out c = omega arith
-
 pub returns : goal.returns
 unfolding pieces
 returns c =
     let e : 64 - c.loop-k.k ≡ 0 = omega arith in
-    rw e at c.loop-k.invariant.1.1 ∙ all_stored (sessions_in c.args.book.now) c.args.out.now c.requires.1
+    rw e at c.loop-k.invariant.1.1 ∙ all_stored (sessions_in c.args.sessions.book.now) c.args.out.now (search rules)

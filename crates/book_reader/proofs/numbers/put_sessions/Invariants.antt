@@ -9,4 +9,4 @@ use Rattle.book_reader.specs.Reader.{numbers_at}
 use Rattle.book_reader.proofs.numbers.put_sessions.Given as goal
 
 abbrev pub invariant-loop-k : goal.invariant-loop-k
-invariant-loop-k l = (l.k ≤ 64) × ((length l.out ≡ 1024) × (sets l.out (0 + 16 * l.k) (pieces (numbers_at (sessions_in l.book)) l.k (64 - l.k)) ≡ sets l.initial.out 0 (pieces (numbers_at (sessions_in l.book)) 0 64)))
+invariant-loop-k l = (l.k ≤ 64) × ((length l.out ≡ 1024) × (sets l.out (0 + 16 * l.k) (pieces (numbers_at (sessions_in l.sessions.book.now)) l.k (64 - l.k)) ≡ sets l.initial.out 0 (pieces (numbers_at (sessions_in l.sessions.book.now)) 0 64)))

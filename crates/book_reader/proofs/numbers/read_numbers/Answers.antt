@@ -5,14 +5,13 @@ use native.Mathlib.Omega.{arith}
 use Rattle.book_reader.specs.Reader.{read_book, contents_of, refused, contents}
 use Rattle.files.proofs.SessionsIn.{session_count_lem}
 use Rattle.book_reader.proofs.reader.Promises.{Promises, fine_room, fine_read, refused_read, same_numbers, promised}
-use borrow.Author.Rules.{rules}
 use Rattle.book_reader.proofs.numbers.read_numbers.Goals as goal
 
 pub header_of-h-requires : goal.header_of-h-requires
 header_of-h-requires c = omega (arith, (fine_room c.args.book.now (sym c.test_book-answer.ensures ∙ c.in-Ok.is)).blocks)
 
-pub put_sessions-requires : goal.put_sessions-requires
-put_sessions-requires c = (rw c.header_of-h.ensures (fine_room _ (sym c.test_book-answer.ensures ∙ c.in-Ok.is)), search rules)
+pub invariant_of-read : goal.invariant_of-read
+invariant_of-read c = record { room = rw c.header_of-h.ensures (fine_room _ (sym c.test_book-answer.ensures ∙ c.in-Ok.is)) }
 
 pub returns-in-Err : goal.returns-in-Err
 returns-in-Err c =

@@ -21,14 +21,14 @@ returns-in_err-test_book c =
 pub header_of-header-requires : goal.header_of-header-requires
 header_of-header-requires c = omega (arith, (fine_room c.args.book.now (sym c.test_book.ensures ∙ c.in_ok-test_book.was)).blocks)
 
-pub read_sessions-sessions-requires : goal.read_sessions-sessions-requires
-read_sessions-sessions-requires c = rw c.header_of-header.ensures (fine_room _ (sym c.test_book.ensures ∙ c.in_ok-test_book.was))
+pub invariant_of-sessions : goal.invariant_of-sessions
+invariant_of-sessions c = record { room = rw c.header_of-header.ensures (fine_room _ (sym c.test_book.ensures ∙ c.in_ok-test_book.was)) }
 
 pub returns : goal.returns
 returns c =
     let fine : test_answer c.args.book.now ≡ Ok tt = sym c.test_book.ensures ∙ c.in_ok-test_book.was in
     let room : Room c.args.book.now (session_count c.args.book.now) = fine_room _ fine in
-    let read : ReadBook = record { header = c.header_of-header.result; sessions = c.read_sessions-sessions.result } in
-    let answer : reading (Ok read) ≡ read_book c.args.book.now = read_as _ read fine c.header_of-header.ensures c.read_sessions-sessions.ensures in
+    let read : ReadBook = record { header = c.header_of-header.result; sessions = c.read.result } in
+    let answer : reading (Ok read) ≡ read_book c.args.book.now = read_as _ read fine c.header_of-header.ensures c.read.ensures in
     let p : Promises c.args.book.now (reading (Ok read)) = promised _ (λ k. (c.type_inv.book k).fits) _ answer in
-    record { answer = answer; beside = (rw c.header_of-header.ensures room.few, rw (c.read_sessions-sessions.ensures, c.header_of-header.ensures) (session_count_lem c.args.book.now)); writer = p.writer; comes_back = p.comes_back; unique = p.unique; runs = p.runs }
+    record { answer = answer; beside = (rw c.header_of-header.ensures room.few, rw (c.read.ensures, c.header_of-header.ensures) (session_count_lem c.args.book.now)); writer = p.writer; comes_back = p.comes_back; unique = p.unique; runs = p.runs }

@@ -12,16 +12,14 @@ pub loop-x-init : goal.loop-x-init
 unfolding of_bits ratio
 loop-x-init c = (((omega arith, omega arith), (omega arith, omega arith)), from_nothing _)
 
-pub add-requires : goal.add-requires
-add-requires c = record { few = ((omega arith, omega arith), (omega arith, omega arith)) }
-
 pub loop-x-preserved : goal.loop-x-preserved
 loop-x-preserved c =
     let i = c.loop-x.x-index in
-    (added-within c.loop-x.t _ _ i c.add.ensures c.loop-x.invariant.0, rw c.add.ensures (sym (add_step c.loop-x.t c.args.sessions.now i _ c.loop-x-test.true) ∙ c.loop-x.invariant.1))
+    (added-within c.loop-x.t _ _ i c.add.ensures c.loop-x.invariant.0, rw c.add.ensures (sym (add_step c.loop-x.t c.as_slice-sessions.result.now i _ c.loop-x-test.true) ∙ c.loop-x.invariant.1))
 
 pub returns : goal.returns
 unfolding added_up
 returns c =
-    let e : drop c.loop-x.x-index c.args.sessions.now ≡ [] = drop_of_length-le c.args.sessions.now {i = c.loop-x.x-index} (omega arith) in
-    rw e at c.loop-x.invariant.1
+    let sessions = c.as_slice-sessions.result.now in
+    let e : drop c.loop-x.x-index sessions ≡ [] = drop_of_length-le sessions {i = c.loop-x.x-index} (omega arith) in
+    rw c.as_slice-sessions.ensures.value at (rw e at c.loop-x.invariant.1)

@@ -1,5 +1,5 @@
 -- `book_reader::totals::totals` meets its contract. Assumes nothing.
-use Rattle.std.proofs.Common.{◌∙◌, ap, Ok}
+use Rattle.std.proofs.Common.{ap, Ok}
 use Rattle.std.proofs.lemmas.Result.{err_from_is_err_and}
 use Rattle.book_reader.proofs.reader.Told.{told_refused, told_read}
 use Rattle.book_reader.proofs.totals.totals.Goals as goal
@@ -9,9 +9,6 @@ returns-in_err-read c =
     let e = err_from_is_err_and c.from_residual.result c.from_residual.ensures.1 in
     rw (e.1, e.2, told_refused _ _ c.read_book.ensures.answer _ c.in_err-read.was)
 
-pub sum_up-requires : goal.sum_up-requires
-sum_up-requires c = c.as_slice.ensures.fits
-
 pub returns : goal.returns
 returns c =
-    rw (told_read _ _ c.read_book.ensures.answer _ c.in_ok-read.was) (ap Ok (c.sum_up.ensures ∙ rw c.as_slice.ensures.value))
+    rw (told_read _ _ c.read_book.ensures.answer _ c.in_ok-read.was) (ap Ok c.sum_up.ensures)

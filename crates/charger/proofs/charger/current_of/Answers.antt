@@ -11,4 +11,4 @@ returns-then-cap c = simp (sym c.cap_of-cap.ensures, c.if-cap.true)
 pub returns : goal.returns
 unfolding of_bits ratio
 returns c =
-    simp (sym c.cap_of-cap.ensures, c.if-cap.false) (ap (λ (x : Float). record { 0 = x }) c.smaller.ensures)
+    simp (sym c.cap_of-cap.ensures, c.if-cap.false) (ap (λ (x : Float). record { 0 = x }) c.min.ensures)

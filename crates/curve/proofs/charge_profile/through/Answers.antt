@@ -6,10 +6,10 @@ pub returns-then-target-w : goal.returns-then-target-w
 unfolding through
 returns-then-target-w c = rw c.if-target-w.true c.requires
 
-pub returns-then-q-w : goal.returns-then-q-w
+pub returns-then-segment-w : goal.returns-then-segment-w
 unfolding through
-returns-then-q-w c = rw (c.if-target-w.false, c.if-q-w.true) c.requires
+returns-then-segment-w c = rw (c.if-target-w.false, c.if-segment-w.true) c.requires
 
 pub returns : goal.returns
 unfolding through
-returns c = rw (c.if-target-w.false, c.if-q-w.false) c.part.ensures
+returns c = rw (c.if-target-w.false, c.if-segment-w.false) c.part.ensures

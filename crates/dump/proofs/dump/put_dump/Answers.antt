@@ -16,7 +16,6 @@ put_event_blocks-requires c =
     record {
       few = omega (arith, c.as_slice-events.ensures.bound);
       room = omega (arith, c.as_slice-events.ensures.bound, c.requires.room, c.put_state.auto);
-      plan = omega (arith, c.requires.state.counted);
       near = rw (← c.as_slice-events.ensures.items) c.requires.state.events;
       place = omega arith;
     }

@@ -1,5 +1,4 @@
-use Rattle.std.proofs.Common.{◌∙◌, append-nil, arith}
-use Rattle.std.proofs.lemmas.List.{take_all}
+use Rattle.std.proofs.Common.{append-nil, arith}
 use mathlib.Core.List.{append_assoc}
 use Rattle.charger.proofs.Lists.{all_at}
 use Rattle.engine.specs.Discrete.{no_car, car}
@@ -9,7 +8,7 @@ use Rattle.dump.proofs.header.busy_blocks.Goals.{in-Some, in_default}
 use Rattle.dump.proofs.header.busy_blocks.Goals as goal
 
 pub place_of-requires-in-Some : goal.place_of-requires-in-Some
-place_of-requires-in-Some c = (c.requires.plan, rw c.in-Some.is at (all_at {P = NearCar} c.args.places.now c.loop-c.c no_car c.loop-c-test.true c.requires.near))
+place_of-requires-in-Some c = rw c.in-Some.is at (all_at {P = NearCar} c.args.places.now c.loop-c.c no_car c.loop-c-test.true c.requires.near)
 
 pub loop-c-preserved : goal.loop-c-preserved
 loop-c-preserved c =
@@ -26,6 +25,3 @@ loop-c-preserved c =
         so_far = step no_car _ _ c.loop-c-test.true w.in_default.is c.loop-c.invariant.so_far (rw (w.blocks-is, append-nil));
       }
     ]
-
-pub returns : goal.returns
-returns c = c.loop-c.invariant.so_far ∙ rw (take_all c.loop-c.c c.args.places.now (omega (arith, c.loop-c-test.false)))

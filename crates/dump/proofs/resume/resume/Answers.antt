@@ -19,6 +19,9 @@ returns-in_err-read_plan-clause-answer c =
     let e = err_from_is_err_and c.from_residual.result c.from_residual.ensures.1 in
     rw (e.1, e.2) (sym (by_plan _ _ _ _ c.if-further-gt10000000.false c.if-book-lt7168.false _ c.in_err-read_plan.ensures.answer))
 
+pub invariant_of-read : goal.invariant_of-read
+invariant_of-read c = record { loaded = c.in_ok-read_plan.ensures.answer }
+
 pub returns : goal.returns
 returns c =
     let ran = c.resume_site.ensures in

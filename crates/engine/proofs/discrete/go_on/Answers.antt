@@ -7,12 +7,12 @@ use Rattle.engine.proofs.discrete.go_on.Goals as goal
 pub handle-requires-clause-times : goal.handle-requires-clause-times
 handle-requires-clause-times c =
     let n = c.args.state.now.simulation.events.handled + c.loop-i.i in
-    in_time c.loop-i.state c.in-Some.e c.pop.new.self c.in-Some.ensures (ready (plan_of c.args.site.now) c.loop-i.state n c.loop-i.invariant c.requires.few c.requires.times)
+    in_time c.loop-i.state c.in-Some.e c.pop.new.self c.in-Some.ensures (ready (plan_of c.args.site.now) c.loop-i.state n c.loop-i.invariant c.args.site.now.vehicles.few c.requires.times)
 
 pub handle-requires-clause-room : goal.handle-requires-clause-room
 handle-requires-clause-room c =
     let n = c.args.state.now.simulation.events.handled + c.loop-i.i in
-    room_for c.loop-i.state c.in-Some.e c.pop.new.self c.in-Some.ensures (ready (plan_of c.args.site.now) c.loop-i.state n c.loop-i.invariant c.requires.few c.requires.times)
+    room_for c.loop-i.state c.in-Some.e c.pop.new.self c.in-Some.ensures (ready (plan_of c.args.site.now) c.loop-i.state n c.loop-i.invariant c.args.site.now.vehicles.few c.requires.times)
 
 pub handle-requires-clause-places : goal.handle-requires-clause-places
 handle-requires-clause-places c = full (plan_of c.args.site.now) c.loop-i.state (c.args.state.now.simulation.events.handled + c.loop-i.i) c.loop-i.invariant

@@ -9,5 +9,5 @@ use Rattle.engine.proofs.timestep.run.Goals as goal
 
 pub returns-clause-order : goal.returns-clause-order
 returns-clause-order c =
-    let done = finishes c.args.site.now c.args.allowance c.new.ensures.start c.rounds.ensures in
-    subst (λ (m : State). Ordered m.site.pending) (sym done.state) (ordered (plan_of c.args.site.now) c.args.allowance)
+    let done = finishes c.args.rising.site.now c.args.allowance c.new.ensures.start c.rounds.ensures in
+    subst (λ (m : State). Ordered m.site.pending) (sym done.state) (ordered (plan_of c.args.rising.site.now) c.args.allowance)

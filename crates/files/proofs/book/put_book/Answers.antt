@@ -28,6 +28,8 @@ put-book s a r engine ended used xs k h p q =
 
 pub returns : goal.returns
 returns c =
-    put-book c.args.book.now c.put_header.new.s c.put_session_blocks.new.s c.args.engine c.args.ended c.args.used c.args.sessions.now c.requires.few c.requires.room
+    rw c.as_slice-sessions.ensures.value at (
+    put-book c.args.book.now c.put_header.new.s c.put_session_blocks.new.s c.args.engine c.args.ended c.args.used c.as_slice-sessions.result.now c.as_slice-sessions.ensures.fits c.requires
     c.put_header.ensures
     c.put_session_blocks.ensures
+    )

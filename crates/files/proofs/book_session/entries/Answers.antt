@@ -1,5 +1,5 @@
 use Rattle.std.proofs.Common.{◌≡◌, ◌∙◌, ℕ, ◌+◌, ◌<◌, map, List, [], ◌∷◌, ◌++◌, length, get_or, take, arith}
-use Rattle.std.proofs.lemmas.List.{map-append, take_all}
+use Rattle.std.proofs.lemmas.List.{map-append}
 use Rattle.charger.specs.Lists.{none, also}
 use Rattle.charger.specs.Code.Vehicles.{listed}
 use Rattle.charger.proofs.Lists.{all_append}
@@ -40,13 +40,10 @@ loop-x-preserved c =
     record {
       many = omega (arith, c.push.ensures.len, c.loop-x.invariant.many);
       so_far =
-          map_more (entry c.args.plan.now (listed c.args.site.now.vehicles) (connectors_of c.args.site.now)) c.args.sessions.now c.loop-x.all.items _ c.loop-x.x-index _ _
+          map_more (entry c.args.plan.now.file (listed c.args.site.now.vehicles) (connectors_of c.args.site.now)) c.args.sessions.now c.loop-x.all.items _ c.loop-x.x-index _ _
           c.loop-x-test.true
           c.loop-x.invariant.so_far
           c.entry.ensures
           c.push.ensures.items;
       fit = rw c.push.ensures.items (all_append c.loop-x.invariant.fit (also fits none));
     }
-
-pub returns-clause-entries : goal.returns-clause-entries
-returns-clause-entries c = c.loop-x.invariant.so_far ∙ rw (take_all c.loop-x.x-index c.args.sessions.now (omega arith))

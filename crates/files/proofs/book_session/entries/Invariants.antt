@@ -9,6 +9,6 @@ use Rattle.files.proofs.book_session.entries.Given as goal
 abbrev pub invariant-loop-x : goal.invariant-loop-x
 invariant-loop-x l = record {
   many : length l.all.items ≡ l.x-index;
-  so_far : l.all.items ≡ map (entry l.plan (listed l.site.vehicles) (connectors_of l.site)) (take l.x-index l.sessions);
+  so_far : l.all.items ≡ map (entry l.plan.file (listed l.site.vehicles) (connectors_of l.site)) (take l.x-index l.sessions);
   fit : All Fits l.all.items;
 }

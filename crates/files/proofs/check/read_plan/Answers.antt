@@ -1,5 +1,5 @@
 -- `files::check::read_plan` meets its contract. Assumes nothing.
-use Rattle.std.proofs.Common.{sym, ◌∙◌, ap}
+use Rattle.std.proofs.Common.{sym, ◌∙◌, ap, arith}
 use Rattle.std.proofs.lemmas.Result.{err_from_is_err_and}
 use Rattle.files.specs.Check.{pair_answer, check_plan}
 use Rattle.files.proofs.check.PairLaws.{reads}
@@ -13,12 +13,11 @@ returns-in_err-check_blocks-clause-answer c =
     let e = err_from_is_err_and c.from_residual.result c.from_residual.ensures.1 in
     rw e.1 (rw (← c.check_blocks.ensures, c.in_err-check_blocks.was, e.2))
 
-pub read_site-requires : goal.read_site-requires
-read_site-requires c = counted _ (sym c.check_blocks.ensures ∙ c.in_ok-check_blocks.was)
+pub invariant_of-plan : goal.invariant_of-plan
+invariant_of-plan c = omega (arith, counted _ (sym c.check_blocks.ensures ∙ c.in_ok-check_blocks.was))
 
-pub pair_answer-requires : goal.pair_answer-requires
-pair_answer-requires c =
-    (counted _ (sym c.check_blocks.ensures ∙ c.in_ok-check_blocks.was), c.failing_pair.ensures ∙ ap failing_pair c.read_site.ensures)
+pub invariant_of-plan-2 : goal.invariant_of-plan-2
+invariant_of-plan-2 c = record { counted = counted _ (sym c.check_blocks.ensures ∙ c.in_ok-check_blocks.was) }
 
 pub returns-clause-answer : goal.returns-clause-answer
 returns-clause-answer c =

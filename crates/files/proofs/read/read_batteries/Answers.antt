@@ -13,9 +13,9 @@ loop-k-init c = (refl, refl)
 
 pub loop-k-preserved : goal.loop-k-preserved
 loop-k-preserved c =
-    (simp length-set c.loop-k.invariant.0, fill_step (battery_of c.args.plan.now) c.loop-k.all c.loop-k.k _ (omega arith) c.loop-k.invariant.1 c.read_battery.ensures)
+    (simp length-set c.loop-k.invariant.0, fill_step (battery_of c.args.plan.now.file) c.loop-k.all c.loop-k.k _ (omega arith) c.loop-k.invariant.1 c.read_battery.ensures)
 
 pub returns : goal.returns
 returns c =
     let e : c.loop-k.k ≡ 16 = omega arith in
-    all_batteries c.args.plan.now c.loop-k.all (omega arith) c.loop-k.invariant.0 (rw e at c.loop-k.invariant.1)
+    all_batteries c.args.plan.now.file c.loop-k.all (omega arith) c.loop-k.invariant.0 (rw e at c.loop-k.invariant.1)

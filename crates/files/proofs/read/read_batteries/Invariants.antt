@@ -5,4 +5,4 @@ use Rattle.files.specs.Read.{battery_of}
 use Rattle.files.proofs.read.read_batteries.Given as goal
 
 abbrev pub invariant-loop-k : goal.invariant-loop-k
-invariant-loop-k l = (length l.all ≡ 16) × (take l.k l.all ≡ each (battery_of l.plan) 0 l.k)
+invariant-loop-k l = (length l.all ≡ 16) × (take l.k l.all ≡ each (battery_of l.plan.file) 0 l.k)

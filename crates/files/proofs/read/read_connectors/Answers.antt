@@ -11,7 +11,7 @@ loop-c-init c = (refl, refl)
 
 pub loop-c-preserved : goal.loop-c-preserved
 loop-c-preserved c =
-    (simp length-set c.loop-c.invariant.0, fill_step (λ j. row_of_charger (charger_block c.args.plan.now j)) c.loop-c.rows c.loop-c.c _ (omega arith) c.loop-c.invariant.1 (c.read_row.ensures ∙ rw c.block_of.ensures))
+    (simp length-set c.loop-c.invariant.0, fill_step (λ j. row_of_charger (charger_block c.args.plan.now.file j)) c.loop-c.rows c.loop-c.c _ (omega arith) c.loop-c.invariant.1 (c.read_row.ensures ∙ rw c.block_of.ensures))
 
 pub returns : goal.returns
 unfolding connector_rows

@@ -6,4 +6,4 @@ use Rattle.plan.specs.Places.{charger_block}
 use Rattle.files.proofs.read.read_connectors.Given as goal
 
 abbrev pub invariant-loop-c : goal.invariant-loop-c
-invariant-loop-c l = (length l.rows ≡ 32) × (take l.c l.rows ≡ each (λ j. row_of_charger (charger_block l.plan j)) 0 l.c)
+invariant-loop-c l = (length l.rows ≡ 32) × (take l.c l.rows ≡ each (λ j. row_of_charger (charger_block l.plan.file j)) 0 l.c)

@@ -8,7 +8,7 @@ use Rattle.files.proofs.read.read_site.Goals as goal
 pub returns : goal.returns
 unfolding chargers_of
 returns c =
-    let plan = c.args.plan.now in
+    let plan = c.args.plan.now.file in
     let rows = c.read_connectors-site.result in
     let many : length c.read_chargers.new.chargers.items ≡ charger_count plan = rw c.read_chargers.ensures (length-each (λ j. charger_of (charger_block plan j)) 0 (charger_count plan)) in
     let connectors : take (length c.read_chargers.new.chargers.items) rows ≡ connector_rows plan = rw many c.read_connectors-site.ensures in

@@ -14,6 +14,11 @@ push-requires c =
     let size : length c.loop-v.list.vehicles.items ≡ c.loop-v.v = rw c.loop-v.invariant.0 (length-each _ 0 c.loop-v.v) in
     (omega arith, omega arith)
 
+pub invariant_of-list-in-loop-v : goal.invariant_of-list-in-loop-v
+invariant_of-list-in-loop-v c =
+    let size : length c.loop-v.list.vehicles.items ≡ c.loop-v.v = rw c.loop-v.invariant.0 (length-each _ 0 c.loop-v.v) in
+    record { few = omega (arith, c.push.ensures.len) }
+
 pub loop-v-preserved : goal.loop-v-preserved
 unfolding vehicle_in
 loop-v-preserved c =

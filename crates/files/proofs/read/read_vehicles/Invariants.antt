@@ -6,4 +6,4 @@ use Rattle.files.proofs.read.read_vehicles.Given as goal
 
 abbrev pub invariant-loop-v : goal.invariant-loop-v
 invariant-loop-v l =
-    (l.list.vehicles.items ≡ each (vehicle_in l.plan) 0 l.v) × (l.list.queue_places ≡ queue_places_of l.plan)
+    (l.list.vehicles.items ≡ each (vehicle_in l.plan.file) 0 l.v) × (l.list.queue_places ≡ queue_places_of l.plan.file)

@@ -7,7 +7,7 @@ use Rattle.files.proofs.stop.Laws.{stopped}
 use Rattle.files.proofs.stop.stop_events.Goals as goal
 
 pub returns : goal.returns
-returns c n same =
+returns c p n same =
     let s = c.args.state.now.simulation in
     stopped c.args.plan.now 0 _ _ _ s c.args.book.now _ _
     record {

@@ -5,7 +5,7 @@ use Rattle.files.proofs.stop.Laws.{stopped}
 use Rattle.files.proofs.stop.stop_steps.Goals as goal
 
 pub returns : goal.returns
-returns c n done =
+returns c ran n done =
     let run = c.args.run.now in
     let same = done.state in
     stopped c.args.plan.now 1 _ run.time run.ended run.state.simulation c.args.book.now _ _

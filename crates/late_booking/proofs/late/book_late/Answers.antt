@@ -10,19 +10,22 @@ pub returns-then-new-lt16384-clause-answer : goal.returns-then-new-lt16384-claus
 returns-then-new-lt16384-clause-answer c =
     new_under _ _ _ _ c.if-new-lt16384.true
 
-pub returns-then-car-ne512-clause-answer : goal.returns-then-car-ne512-clause-answer
-returns-then-car-ne512-clause-answer c =
-    car-length _ _ _ _ c.if-new-lt16384.false c.if-car-ne512.true
+pub returns-in_default-clause-answer : goal.returns-in_default-clause-answer
+returns-in_default-clause-answer c =
+    car-length _ _ _ _ c.if-new-lt16384.false c.in_default.ensures.1
 
 pub returns-in_err-read_plan-clause-answer : goal.returns-in_err-read_plan-clause-answer
 returns-in_err-read_plan-clause-answer c =
     let e = err_from_is_err_and c.from_residual.result c.from_residual.ensures.1 in
-    rw (e.1, e.2) (sym (by_plan _ _ _ _ c.if-new-lt16384.false c.if-car-ne512.false _ c.in_err-read_plan.ensures.answer))
+    rw (e.1, e.2) (sym (by_plan _ _ _ _ c.if-new-lt16384.false c.in-Ok.ensures.1.long _ c.in_err-read_plan.ensures.answer))
+
+pub invariant_of-read : goal.invariant_of-read
+invariant_of-read c = record { loaded = c.in_ok-read_plan.ensures.answer }
 
 pub returns : goal.returns
 returns c =
-    let ran = c.book_site.ensures in
+    let ran = rw c.in-Ok.ensures.1.same at c.book_site.ensures in
     let answer : c.book_site.result ≡ late_answer c.args.plan.now c.args.dump.now c.args.car.now (length c.args.new.now)
-    = ran.answer ∙ sym (by_plan _ _ _ _ c.if-new-lt16384.false c.if-car-ne512.false (Ok tt) c.in_ok-read_plan.ensures.answer.fine) in
+    = ran.answer ∙ sym (by_plan _ _ _ _ c.if-new-lt16384.false c.in-Ok.ensures.1.long (Ok tt) c.in_ok-read_plan.ensures.answer.fine) in
     let p = booked _ _ _ _ _ c.book_site.result answer ran.dump in
     record { answer = answer; dump = ran.dump; stands = p.stands; order = p.order; counts = p.counts; whole = p.whole; header = p.header; sessions = p.sessions; events = p.events; full = p.full }

@@ -39,59 +39,63 @@ pub returns-then-dump-lt512 : goal.returns-then-dump-lt512
 unfolding booking_answer
 returns-then-dump-lt512 c = record { answer = rw (no_header _ _ c.if-dump-lt512.true); dump = refl }
 
-pub reach-reached-requires-clause-few : goal.reach-reached-requires-clause-few
-reach-reached-requires-clause-few c = (runnable c.requires.loaded).vehicles
-
-pub reach-reached-requires-clause-times : goal.reach-reached-requires-clause-times
-reach-reached-requires-clause-times c = (runnable c.requires.loaded).times
+pub reach-reached-requires : goal.reach-reached-requires
+reach-reached-requires c = record { times = (runnable c.args.read.loaded).times }
 
 pub is_dump-requires : goal.is_dump-requires
-is_dump-requires c = dumpable c.requires.loaded c.reach-reached.result.state c.u64_at-handled.result c.reach-reached.ensures.same
+is_dump-requires c = dumpable c.args.read.loaded c.reach-reached.result.state c.u64_at-handled.result c.reach-reached.ensures.same
 
 pub returns-then-not-is_dump : goal.returns-then-not-is_dump
 unfolding booking_answer
 returns-then-not-is_dump c =
-    let compared = compared c.requires.loaded c.reach-reached.result.state c.u64_at-handled.result c.reach-reached.ensures.same c.args.dump.now c.u64_at-handled.ensures c.is_dump.result c.is_dump.ensures in
+    let compared = compared c.args.read.loaded c.reach-reached.result.state c.u64_at-handled.result c.reach-reached.ensures.same c.args.dump.now c.u64_at-handled.ensures c.is_dump.result c.is_dump.ensures in
     record { answer = rw (sym compared ∙ c.if-not-is_dump.true); dump = refl }
 
 pub returns-then-len-ge64 : goal.returns-then-len-ge64
 unfolding booking_answer
 returns-then-len-ge64 c =
-    let compared = compared c.requires.loaded c.reach-reached.result.state c.u64_at-handled.result c.reach-reached.ensures.same c.args.dump.now c.u64_at-handled.ensures c.is_dump.result c.is_dump.ensures in
-    let own : is_dump c.args.plan.now c.args.dump.now ≡ true = sym compared ∙ c.if-not-is_dump.false in
-    let full : 64 ≤ vehicle_count c.args.plan.now = omega (arith, c.if-len-ge64.true, c.len.ensures, counted_vehicles c.requires.loaded) in
-    record { answer = rw (own, le-leb 64 (vehicle_count c.args.plan.now) full); dump = refl }
+    let compared = compared c.args.read.loaded c.reach-reached.result.state c.u64_at-handled.result c.reach-reached.ensures.same c.args.dump.now c.u64_at-handled.ensures c.is_dump.result c.is_dump.ensures in
+    let own : is_dump c.args.read.plan.now c.args.dump.now ≡ true = sym compared ∙ c.if-not-is_dump.false in
+    let full : 64 ≤ vehicle_count c.args.read.plan.now = omega (arith, c.if-len-ge64.true, c.len.ensures, counted_vehicles c.args.read.loaded) in
+    record { answer = rw (own, le-leb 64 (vehicle_count c.args.read.plan.now) full); dump = refl }
 
 pub returns-then-not-reached : goal.returns-then-not-reached
 unfolding booking_answer
 returns-then-not-reached c =
-    let compared = compared c.requires.loaded c.reach-reached.result.state c.u64_at-handled.result c.reach-reached.ensures.same c.args.dump.now c.u64_at-handled.ensures c.is_dump.result c.is_dump.ensures in
-    let own : is_dump c.args.plan.now c.args.dump.now ≡ true = sym compared ∙ c.if-not-is_dump.false in
-    let few : vehicle_count c.args.plan.now < 64 = omega (arith, c.if-len-ge64.false, c.len.ensures, counted_vehicles c.requires.loaded) in
-    let room = lt-leb 64 (vehicle_count c.args.plan.now) few in
-    let later_told : c.reach-reached.result.later ≡ is_later (read_plan c.args.plan.now) (handled_in c.args.dump.now) (arrival_in c.args.car.now)
+    let compared = compared c.args.read.loaded c.reach-reached.result.state c.u64_at-handled.result c.reach-reached.ensures.same c.args.dump.now c.u64_at-handled.ensures c.is_dump.result c.is_dump.ensures in
+    let own : is_dump c.args.read.plan.now c.args.dump.now ≡ true = sym compared ∙ c.if-not-is_dump.false in
+    let few : vehicle_count c.args.read.plan.now < 64 = omega (arith, c.if-len-ge64.false, c.len.ensures, counted_vehicles c.args.read.loaded) in
+    let room = lt-leb 64 (vehicle_count c.args.read.plan.now) few in
+    let later_told : c.reach-reached.result.later ≡ is_later (read_plan c.args.read.plan.now) (handled_in c.args.dump.now) (arrival_in c.args.car.now)
     = c.reach-reached.ensures.later
-    ∙ ap (λ (p : Plan). is_later p c.u64_at-handled.result c.u64_at.result) c.requires.loaded.read
-    ∙ ap (λ (n : ℕ). is_later (read_plan c.args.plan.now) n c.u64_at.result) c.u64_at-handled.ensures
-    ∙ ap (is_later (read_plan c.args.plan.now) (handled_in c.args.dump.now)) c.u64_at.ensures in
+    ∙ ap (λ (p : Plan). is_later p c.u64_at-handled.result c.u64_at.result) c.args.read.loaded.read
+    ∙ ap (λ (n : ℕ). is_later (read_plan c.args.read.plan.now) n c.u64_at.result) c.u64_at-handled.ensures
+    ∙ ap (is_later (read_plan c.args.read.plan.now) (handled_in c.args.dump.now)) c.u64_at.ensures in
     record { answer = rw (own, room, sym later_told ∙ c.if-not-reached.true); dump = refl }
+
+pub invariant_of-file : goal.invariant_of-file
+invariant_of-file c = omega (arith, as_counted c.args.read.plan.now c.args.read.loaded.admitted)
 
 pub dump_longer-requires : goal.dump_longer-requires
 dump_longer-requires c =
-    let count = counted_vehicles c.requires.loaded in
-    let fits = as_counted c.args.plan.now c.requires.loaded.admitted in
-    ((omega (arith, fits), omega (arith, fits, c.if-len-ge64.false, c.len.ensures, count)), (omega (arith, c.if-len-ge64.false, c.len.ensures, count), (c.requires.car, c.requires.room)))
+    let count = counted_vehicles c.args.read.loaded in
+    let fits = as_counted c.args.read.plan.now c.args.read.loaded.admitted in
+    record {
+      size = omega (arith, fits, c.if-len-ge64.false, c.len.ensures, count);
+      vehicles = omega (arith, c.if-len-ge64.false, c.len.ensures, count);
+      room = c.requires;
+    }
 
 pub returns : goal.returns
 unfolding booking_answer
 returns c =
-    let compared = compared c.requires.loaded c.reach-reached.result.state c.u64_at-handled.result c.reach-reached.ensures.same c.args.dump.now c.u64_at-handled.ensures c.is_dump.result c.is_dump.ensures in
-    let own : is_dump c.args.plan.now c.args.dump.now ≡ true = sym compared ∙ c.if-not-is_dump.false in
-    let few : vehicle_count c.args.plan.now < 64 = omega (arith, c.if-len-ge64.false, c.len.ensures, counted_vehicles c.requires.loaded) in
-    let room = lt-leb 64 (vehicle_count c.args.plan.now) few in
-    let later_told : c.reach-reached.result.later ≡ is_later (read_plan c.args.plan.now) (handled_in c.args.dump.now) (arrival_in c.args.car.now)
+    let compared = compared c.args.read.loaded c.reach-reached.result.state c.u64_at-handled.result c.reach-reached.ensures.same c.args.dump.now c.u64_at-handled.ensures c.is_dump.result c.is_dump.ensures in
+    let own : is_dump c.args.read.plan.now c.args.dump.now ≡ true = sym compared ∙ c.if-not-is_dump.false in
+    let few : vehicle_count c.args.read.plan.now < 64 = omega (arith, c.if-len-ge64.false, c.len.ensures, counted_vehicles c.args.read.loaded) in
+    let room = lt-leb 64 (vehicle_count c.args.read.plan.now) few in
+    let later_told : c.reach-reached.result.later ≡ is_later (read_plan c.args.read.plan.now) (handled_in c.args.dump.now) (arrival_in c.args.car.now)
     = c.reach-reached.ensures.later
-    ∙ ap (λ (p : Plan). is_later p c.u64_at-handled.result c.u64_at.result) c.requires.loaded.read
-    ∙ ap (λ (n : ℕ). is_later (read_plan c.args.plan.now) n c.u64_at.result) c.u64_at-handled.ensures
-    ∙ ap (is_later (read_plan c.args.plan.now) (handled_in c.args.dump.now)) c.u64_at.ensures in
-    let told = sym later_told ∙ c.if-not-reached.false in record { answer = rw (own, room, told) c.dump_longer.ensures.answer; dump = c.dump_longer.ensures.dump ∙ ap (λ (n : ℕ). dumped_after (longer c.args.plan.now c.args.car.now) n c.dump_longer.result c.args.new.now) c.u64_at-handled.ensures }
+    ∙ ap (λ (p : Plan). is_later p c.u64_at-handled.result c.u64_at.result) c.args.read.loaded.read
+    ∙ ap (λ (n : ℕ). is_later (read_plan c.args.read.plan.now) n c.u64_at.result) c.u64_at-handled.ensures
+    ∙ ap (is_later (read_plan c.args.read.plan.now) (handled_in c.args.dump.now)) c.u64_at.ensures in
+    let told = sym later_told ∙ c.if-not-reached.false in record { answer = rw (own, room, told) c.dump_longer.ensures.answer; dump = c.dump_longer.ensures.dump ∙ ap (λ (n : ℕ). dumped_after (longer c.args.read.plan.now c.args.car.now) n c.dump_longer.result c.args.new.now) c.u64_at-handled.ensures }

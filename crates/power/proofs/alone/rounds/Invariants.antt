@@ -3,7 +3,7 @@ use mathlib.Core.Bool.{true, false}
 use mathlib.Core.List.{[], ◌∷◌}
 use Prim.Native.Nat.{◌-◌}
 use lib.Dec.{ltb}
-use Rattle.charger.specs.Code.Profiles.{curve_at}
+use Rattle.charger.specs.Code.Profiles.{curve_in}
 use Rattle.power.specs.ChargerState.{is_free}
 use Rattle.power.specs.Code.Rounds.{spin}
 use Rattle.power.specs.Code.Alone.{CapMatchesRequest}
@@ -13,5 +13,5 @@ use Rattle.power.proofs.alone.rounds.Given as goal
 abbrev pub invariant-loop-k : goal.invariant-loop-k
 invariant-loop-k l =
     (is_free l.s.status ≡ false)
-    × (spin l.limit (curve_at l.curves l.lens) l.k (l.count - l.k) (l.s ∷ []) ≡ spin l.limit (curve_at l.curves l.lens) 0 l.count (l.initial.s ∷ []))
+    × (spin l.limit (curve_in l.rising.profiles) l.k (l.count - l.k) (l.s ∷ []) ≡ spin l.limit (curve_in l.rising.profiles) 0 l.count (l.initial.s ∷ []))
     × (ltb 0 l.k ≡ true → CapMatchesRequest l.limit l.s)

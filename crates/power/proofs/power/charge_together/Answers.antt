@@ -1,12 +1,8 @@
 use mathlib.Core.Path.{sym, ◌∙◌}
 use native.Mathlib.Omega.{arith}
-use Rattle.power.proofs.power.SpinRounds.{spin-finished, spin_more}
+use Rattle.power.proofs.power.SpinRounds.{spin_more}
 use Rattle.power.proofs.power.Gaps.{cars_charged}
 use Rattle.power.proofs.power.charge_together.Goals as goal
-
-pub returns-then-charge : goal.returns-then-charge
-returns-then-charge c =
-    rw c.charge.ensures.moved (sym (spin-finished _ _ c.loop-k.k _ _ (omega arith) (rw c.charge.ensures.moved at (sym c.charge.ensures.any ∙ c.if-charge.true))) ∙ c.loop-k.invariant.1)
 
 pub loop-k-preserved : goal.loop-k-preserved
 loop-k-preserved c = (

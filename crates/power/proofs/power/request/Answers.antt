@@ -8,7 +8,7 @@ returns-then-is_free-clause-summed c = sym (added-free _ _ (sym c.is_free.ensure
 
 pub returns-clause-asked : goal.returns-clause-asked
 unfolding request
-returns-clause-asked c = rw (← c.is_free.ensures, c.if-is_free.false, c.place_on_curve-place.ensures)
+returns-clause-asked c = rw (← c.is_free.ensures, c.if-is_free.false, c.place-place.ensures)
 
 pub returns-clause-summed : goal.returns-clause-summed
 unfolding added

@@ -9,30 +9,26 @@ use Rattle.engine.proofs.plug_in.State.spin.Goals as goal
 pub overflow_add-then : goal.overflow_add-then
 overflow_add-then c =
     let next = next_quiet c.args.time c.args.last _ (pending c.args.self.now.simulation.events) c.requires.before c.requires.none c.next_time-next.ensures in
-    let m = counted c.args.site.now.limit (curve_at c.args.site.now.curves c.args.site.now.lens) c.args.self.now.bank.items c.args.time c.args.last _ _ next (ap (λ (p : Spun). p.rounds) c.charge-spun.ensures.spun) in
+    let m = counted c.args.rising.site.now.limit (curve_at c.args.rising.site.now.curves c.args.rising.site.now.lens) c.args.self.now.bank.items c.args.time c.args.last _ _ next (ap (λ (p : Spun). p.rounds) c.charge-spun.ensures.spun) in
     omega arith
-
-pub overflow_sub-next : goal.overflow_sub-next
-overflow_sub-next c =
-    omega (arith, (next_quiet c.args.time c.args.last _ (pending c.args.self.now.simulation.events) c.requires.before c.requires.none c.next_time-next.ensures).later)
 
 pub overflow_sub-then : goal.overflow_sub-then
 overflow_sub-then c =
     let next = next_quiet c.args.time c.args.last _ (pending c.args.self.now.simulation.events) c.requires.before c.requires.none c.next_time-next.ensures in
-    let m = counted c.args.site.now.limit (curve_at c.args.site.now.curves c.args.site.now.lens) c.args.self.now.bank.items c.args.time c.args.last _ _ next (ap (λ (p : Spun). p.rounds) c.charge-spun.ensures.spun) in
+    let m = counted c.args.rising.site.now.limit (curve_at c.args.rising.site.now.curves c.args.rising.site.now.lens) c.args.self.now.bank.items c.args.time c.args.last _ _ next (ap (λ (p : Spun). p.rounds) c.charge-spun.ensures.spun) in
     omega arith
 
 pub free_finished-requires : goal.free_finished-requires
 free_finished-requires c =
-    fit_spun c.args.site.now c.args.time c.args.last _ c.args.self.now c.charge-spun.new.self c.charge-spun.ensures.rest c.charge-spun.result
+    fit_spun c.args.rising.site.now c.args.time c.args.last _ c.args.self.now c.charge-spun.new.self c.charge-spun.ensures.rest c.charge-spun.result
     c.requires.before c.requires.none c.requires.going c.next_time-next.ensures c.charge-spun.ensures.spun c.requires.fit
 
 pub returns-then-spun : goal.returns-then-spun
 returns-then-spun c =
-    went_freeing c.args.site.now c.args.time c.args.last _ c.args.self.now c.charge-spun.new.self c.charge-spun.ensures.rest c.charge-spun.result
+    went_freeing c.args.rising.site.now c.args.time c.args.last _ c.args.self.now c.charge-spun.new.self c.charge-spun.ensures.rest c.charge-spun.result
     c.requires.before c.requires.none c.requires.going c.next_time-next.ensures c.charge-spun.ensures.spun c.if-spun.true c.free_finished.ensures
 
 pub returns-else-spun : goal.returns-else-spun
 returns-else-spun c =
-    went_on c.args.site.now c.args.time c.args.last _ c.args.self.now c.charge-spun.new.self c.charge-spun.ensures.rest c.charge-spun.result
+    went_on c.args.rising.site.now c.args.time c.args.last _ c.args.self.now c.charge-spun.new.self c.charge-spun.ensures.rest c.charge-spun.result
     c.requires.before c.requires.none c.requires.going c.next_time-next.ensures c.charge-spun.ensures.spun c.if-spun.false c.requires.fit

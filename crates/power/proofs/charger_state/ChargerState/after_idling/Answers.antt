@@ -5,4 +5,4 @@ use Rattle.power.proofs.charger_state.ChargerState.after_idling.Goals as goal
 
 pub returns : goal.returns
 unfolding after_idling ratio of_bits
-returns c = simp c.idle_until.ensures
+returns c = simp c.idle_until-self.ensures

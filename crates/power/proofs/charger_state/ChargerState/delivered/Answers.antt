@@ -4,4 +4,4 @@ use Rattle.power.proofs.charger_state.ChargerState.delivered.Goals as goal
 
 pub returns : goal.returns
 unfolding ratio of_bits div
-returns c = simp (c.max.ensures, c.charging_until.ensures)
+returns c = simp (c.max-self.ensures, c.charging_until-self.ensures)
