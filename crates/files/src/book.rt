@@ -15,8 +15,8 @@ use plan::blocks::seal;
 use plan::bytes::put_fields;
 use plan::places::PlanFile;
 
-// Stores the header's block into s. It is the first block of the buffer that is lent: as an array of 512 bytes it would be lent out of that and
-// written back.
+// Stores the header's block into s, from its numbers one by one: a struct of them would be made here alone. It is the first block of the
+// buffer that is lent: as an array of 512 bytes it would be lent out of that and written back.
 fn put_header(s: &mut [u8], count: u64, engine: u8, ended: u8, used: u64)
     requires { 512 ≤ length s.old }
     ensures { s.new ≡ sets s.old 0 (header_block count engine ended used) }

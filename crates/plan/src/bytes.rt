@@ -3,7 +3,7 @@ ghost use Rattle.std.specs.Prelude.{◌≡◌, ◌+◌, ◌<◌, ◌≤◌, leng
 ghost use Rattle.std.proofs.lemmas.List.Edits.{sets};
 ghost use Rattle.plan.specs.Bytes.{le_at, bytes, fields, in_a_row};
 
-// The number in the n bytes of s from at.
+// The number in the n bytes of s from at. For every width in one loop: the library's `from_le_bytes` takes an array of one.
 pub fn get(s: &[u8], at: usize, n: usize) -> u64
     requires { (n ≤ 8) × (at + n ≤ length s.now) }
     ensures { result ≡ le_at n s.now at }

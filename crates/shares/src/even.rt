@@ -81,6 +81,7 @@ fn share_of(level: u64, left: u64, request: u64) -> u64
     }
 }
 
+// Level and left-over watts go apart: the level stays, and the left-over watts are given away one by one.
 fn left_after(level: u64, left: u64, request: u64) -> u64
     ensures { result ≡ left_after level left request }
 {
