@@ -1,4 +1,4 @@
--- Rules. What is read of a record, and what is written of a call. Numbers are little-endian; bytes past a list's end count as 0.
+-- What is read of a record, and what is written of a call. Numbers are little-endian; bytes past a list's end count as 0.
 use Rattle.std.specs.Prelude.{◌≡◌, ℕ, zero, suc, ◌+◌, ◌*◌, ◌%◌, ◌^◌, List, drop, take, fold, Result, Ok, Err, MatchResult}
 use lib.Seq.{sets}
 use Rattle.plan.specs.Bytes.{le_at}

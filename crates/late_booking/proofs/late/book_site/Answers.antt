@@ -31,6 +31,16 @@ compared : {plan : List ℕ} {site : Site} (l : Loaded plan site) (state : State
 unfolding is_dump
 compared {plan} l state n same dump e t h = h ∙ ap (λ (f : List ℕ). starts_with f dump) (dump_shown l state n same ∙ ap (dump_of plan) e)
 
+-- whether the car comes late enough, said of the plan that was read, by the bytes of dump and car
+told_late : {plan : List ℕ} {site : Site} → Loaded plan site → (dump car : List ℕ) (n arrival : ℕ) (later : Bool)
+    → later ≡ is_later (plan_of site) n arrival → n ≡ handled_in dump → arrival ≡ arrival_in car
+    → later ≡ is_later (read_plan plan) (handled_in dump) (arrival_in car)
+told_late {plan} l dump car n arrival later told e f =
+    told
+    ∙ ap (λ (p : Plan). is_later p n arrival) l.read
+    ∙ ap (λ (k : ℕ). is_later (read_plan plan) k arrival) e
+    ∙ ap (is_later (read_plan plan) (handled_in dump)) f
+
 -- as many vehicles as the header says
 counted_vehicles : {plan : List ℕ} {site : Site} → Loaded plan site → length (listed site.vehicles) ≡ vehicle_count plan
 counted_vehicles {plan} l = ap (λ (p : Plan). length p.vehicles) l.read ∙ vehicle-count plan
@@ -66,11 +76,7 @@ returns-then-not-reached c =
     let own : is_dump c.args.read.plan.now c.args.dump.now ≡ true = sym compared ∙ c.if-not-is_dump.false in
     let few : vehicle_count c.args.read.plan.now < 64 = omega (arith, c.if-len-ge64.false, c.len.ensures, counted_vehicles c.args.read.loaded) in
     let room = lt-leb 64 (vehicle_count c.args.read.plan.now) few in
-    let later_told : c.reach-reached.result.later ≡ is_later (read_plan c.args.read.plan.now) (handled_in c.args.dump.now) (arrival_in c.args.car.now)
-    = c.reach-reached.ensures.later
-    ∙ ap (λ (p : Plan). is_later p c.u64_at-handled.result c.u64_at.result) c.args.read.loaded.read
-    ∙ ap (λ (n : ℕ). is_later (read_plan c.args.read.plan.now) n c.u64_at.result) c.u64_at-handled.ensures
-    ∙ ap (is_later (read_plan c.args.read.plan.now) (handled_in c.args.dump.now)) c.u64_at.ensures in
+    let later_told = told_late c.args.read.loaded c.args.dump.now c.args.car.now _ _ _ c.reach-reached.ensures.later c.u64_at-handled.ensures c.u64_at.ensures in
     record { answer = rw (own, room, sym later_told ∙ c.if-not-reached.true); dump = refl }
 
 pub invariant_of-file : goal.invariant_of-file
@@ -93,9 +99,5 @@ returns c =
     let own : is_dump c.args.read.plan.now c.args.dump.now ≡ true = sym compared ∙ c.if-not-is_dump.false in
     let few : vehicle_count c.args.read.plan.now < 64 = omega (arith, c.if-len-ge64.false, c.len.ensures, counted_vehicles c.args.read.loaded) in
     let room = lt-leb 64 (vehicle_count c.args.read.plan.now) few in
-    let later_told : c.reach-reached.result.later ≡ is_later (read_plan c.args.read.plan.now) (handled_in c.args.dump.now) (arrival_in c.args.car.now)
-    = c.reach-reached.ensures.later
-    ∙ ap (λ (p : Plan). is_later p c.u64_at-handled.result c.u64_at.result) c.args.read.loaded.read
-    ∙ ap (λ (n : ℕ). is_later (read_plan c.args.read.plan.now) n c.u64_at.result) c.u64_at-handled.ensures
-    ∙ ap (is_later (read_plan c.args.read.plan.now) (handled_in c.args.dump.now)) c.u64_at.ensures in
+    let later_told = told_late c.args.read.loaded c.args.dump.now c.args.car.now _ _ _ c.reach-reached.ensures.later c.u64_at-handled.ensures c.u64_at.ensures in
     let told = sym later_told ∙ c.if-not-reached.false in record { answer = rw (own, room, told) c.dump_longer.ensures.answer; dump = c.dump_longer.ensures.dump ∙ ap (λ (n : ℕ). dumped_after (longer c.args.read.plan.now c.args.car.now) n c.dump_longer.result c.args.new.now) c.u64_at-handled.ensures }
