@@ -56,9 +56,10 @@ class Drawn(unittest.TestCase):
         self.assertIn("charger 4", words(drawn([CHARGED], of_plan)))
 
     def test_a_limit_that_events_ignore_is_noted(self):
-        of_plan = text.read_plan("day.txt", b"limit 90\ncharger 3 power 50 current 9 voltage 9 connectors")
-        self.assertTrue(any("which a run by events ignores" in word for word in words(drawn([CHARGED], of_plan, engine=0))))
-        self.assertFalse(any("ignores" in word for word in words(drawn([CHARGED], of_plan, engine=1))))
+        for limit, noted in [("90", "90 kW"), ("90 shared evenly", "90 kW, shared evenly")]:
+            of_plan = text.read_plan("day.txt", f"limit {limit}\ncharger 3 power 50 current 9 voltage 9 connectors".encode())
+            self.assertTrue(any(f"{noted}, which a run by events ignores" in word for word in words(drawn([CHARGED], of_plan, engine=0))))
+            self.assertFalse(any("ignores" in word for word in words(drawn([CHARGED], of_plan, engine=1))))
 
     def test_the_picture_of_the_example(self):
         of_plan = text.read_plan("day.txt", (HERE / "day.txt").read_bytes())

@@ -173,6 +173,17 @@ class Books(Commands):
             self.assertIn("warning: the plan limits the site to 90 kW", said)
         self.assertNotIn(b"warning", self.succeeds("show", stdin=data))
 
+    def test_a_limit_shared_evenly_that_events_ignore_is_warned_of(self):
+        warning = "warning: the plan limits the site to 25 kW, shared evenly, which a run by events ignores; run it by steps to obey the limit\n"
+        of_text = HERE / "even_shares.txt"
+        of_plan = self.file("even_shares.plan", self.succeeds("plan", of_text))
+        by_events, by_steps = (book_bytes([CHARGED | {"vehicle": 11, "charger": 1}], engine=engine) for engine in (0, 1))
+        for name in (of_text, of_plan):
+            self.assertIn(warning, self.succeeds("show", "--plan", name, stdin=by_events).decode())
+            for command in ["csv", "picture"]:
+                self.assertEqual(self.run_tool(command, "--plan", name, stdin=by_events)[2], warning)
+            self.assertNotIn(b"warning", self.succeeds("show", "--plan", name, stdin=by_steps))
+
     def test_a_run_that_has_not_ended_is_warned_of(self):
         data = book_bytes([OPEN | {"vehicle": 7001, "charger": 101}], ended=0)
         self.assertIn(b"warning: the run has not ended: its allowance of 3000 units is used up; 1 session open\n", self.succeeds("show", stdin=data))
@@ -264,8 +275,9 @@ class Dumps(Commands):
         self.assertIn("block 10 of ", self.fails("dump", "--plan", self.file("day.txt", TEXT), stdin=data))
 
     def test_a_limit_that_events_ignore_is_warned_of(self):
-        limited = self.file("day.plan", b"".join([PLAN.data()[:12], b"\1\0\0\0", struct.pack("<d", 90), PLAN.data()[24:]]))
-        self.assertIn(b"warning: the plan limits the site to 90 kW", self.succeeds("dump", "--plan", limited, stdin=self.WHOLE))
+        for mode, words in [(1, b"90 kW, which"), (2, b"90 kW, shared evenly, which")]:
+            limited = self.file("day.plan", b"".join([PLAN.data()[:12], struct.pack("<Bxxxd", mode, 90), PLAN.data()[24:]]))
+            self.assertIn(b"warning: the plan limits the site to " + words, self.succeeds("dump", "--plan", limited, stdin=self.WHOLE))
 
     def test_what_is_no_dump_of_the_plan(self):
         torn = self.file("torn.dump", self.WHOLE[:-1])

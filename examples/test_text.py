@@ -4,6 +4,7 @@ import unittest
 from pathlib import Path
 
 from sitefiles import blocks, plan, text
+from sitefiles.plan import SCALED, SHARED_EVENLY, Limit
 
 HERE = Path(__file__).parent
 
@@ -34,7 +35,7 @@ class Reading(unittest.TestCase):
     def test_a_plan_reads_back(self):
         made = text.read_plan("day.txt", (HERE / "day.txt").read_bytes())
         read = plan.from_bytes("day.plan", made.data())
-        self.assertEqual(read.limit, 90)
+        self.assertEqual(read.limit, Limit(90, SCALED))
         self.assertEqual([(part.kind, part.id) for part in read.parts], [(part.kind, part.id) for part in made.parts])
         self.assertEqual(read.ids("vehicle"), list(range(7001, 7008)))
         self.assertEqual(read.data(), made.data())
@@ -78,6 +79,18 @@ class Reading(unittest.TestCase):
         self.assertEqual(struct.unpack("<5d", data[512 + 40 : 512 + 80]), (0, 125.5, 1, 0, 63))
         self.assertEqual(data_of(CHARGER)[512 + 40 : 512 + 508], bytes(468))
 
+    def test_a_limit_has_its_mode(self):
+        for mode, written in [(1, ["90", "90 kW"]), (2, ["90 shared evenly", "90kW shared evenly", "90 kW  shared\tevenly  # so"])]:
+            for words in written:
+                self.assertEqual(data_of(f"limit {words}")[12:508], bytes([mode, 0, 0, 0]) + struct.pack("<d", 90) + bytes(484))
+        self.assertEqual(data_of(*SITE)[12:24], bytes(12))
+
+    def test_the_example_of_even_shares(self):
+        made = text.read_plan("even_shares.txt", (HERE / "even_shares.txt").read_bytes())
+        read = plan.from_bytes("even_shares.plan", made.data())
+        self.assertEqual((made.limit, read.limit), (Limit(25, SHARED_EVENLY), Limit(25, SHARED_EVENLY)))
+        self.assertEqual(read.data(), made.data())
+
     def test_queue_places_stand_by_fleet(self):
         data = data_of("fleet 3 places 5", "fleet 64 places 64", "fleet 2 places 0", "fleet 1 places 4")
         self.assertEqual(data[24:88], bytes([4, 0, 5]) + bytes(60) + bytes([64]))
@@ -108,7 +121,7 @@ class Reading(unittest.TestCase):
 
     def test_the_ends_of_the_ranges_are_within(self):
         data_of("limit 0.125", "profile 0 battery 1 points 0:0.125", "profile 4294967295 battery 1024 points 1:1024")
-        data_of("limit 65536", "charger 1 power 1024 current 4096 voltage 4096 connectors", "charger 2 power 0.125 current 1 voltage 1 connectors")
+        data_of("limit 65536 shared evenly", "charger 1 power 1024 current 4096 voltage 4096 connectors", "charger 2 power 0.125 current 1 voltage 1 connectors")
         data_of(PROFILE, "vehicle 1 profile 1 connectors soc 0 1 idle 604800 arrival 1000000 wait 1000000 queue 4294967295")
         data_of("fleet 1 places 0", "fleet 64 places 64", PROFILE, f"{VEHICLE} fleet 1", f"{VEHICLE.replace('vehicle 1', 'vehicle 2')} fleet 64")
 
@@ -165,7 +178,19 @@ class Faults(unittest.TestCase):
         self.expect("vehicle 2 profile 1 profile 1", "profile", "twice")
 
     def test_a_second_limit(self):
-        self.assertEqual(faults_of("limit 5", "", "limit 6"), ['day.txt:3: "limit": a site has one limit, and it is given on line 1'])
+        for second in ["limit 6", "limit 5 shared evenly"]:
+            self.assertEqual(faults_of("limit 5", "", second), ['day.txt:3: "limit": a site has one limit, and it is given on line 1'])
+
+    def test_a_limit_shared_otherwise(self):
+        for words in ["shared", "evenly", "evenly shared", "shared equally", "shared evenly 2", "shared evenly kW", "shared evenly shared evenly"]:
+            self.expect(f"limit 90 kW {words}", words, "behind a limit can stand shared evenly, and nothing else")
+        self.expect("limit 90 Shared evenly", "Shared", "neither a field of this line nor kW, the unit of limit")
+        self.expect("limit shared evenly", "limit", "its value is missing")
+        self.expect("limit shared evenly 90 kW", "limit", "its value is missing")
+        self.expect("limit 90MW shared evenly", "90MW", "limit is in kW")
+        self.expect("limit 90 80 shared evenly", "80", "too many for limit")
+        self.expect("limit 0.12 shared evenly", "0.12", "from 0.125 to 65536 kW")
+        self.expect("charger 2 power 50 shared evenly", "shared", "neither a field of this line nor kW, the unit of power")
 
     def test_ids(self):
         self.expect("charger 4294967296 power 50", "4294967296", "from 0 to 4294967295")

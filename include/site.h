@@ -63,7 +63,7 @@ extern "C" {
 /* Engines; any other number is refused by 1, and so are steps where a dump is asked for. */
 enum site_engine {
     SITE_EVENTS = 0, /* from event to event: fast, ignores the site limit */
-    SITE_STEPS = 1   /* second by second: obeys the site limit */
+    SITE_STEPS = 1   /* second by second: obeys the site limit, also one that is shared evenly */
 };
 
 /* Where the eleven numbers of an answer stand. */

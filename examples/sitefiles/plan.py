@@ -8,6 +8,18 @@ KINDS = ["profile", "charger", "vehicle"]
 MOST = {"profile": 16, "charger": 32, "vehicle": 64}
 FLEETS = 64
 MOST_QUEUE_PLACES = 64
+SCALED, SHARED_EVENLY = 1, 2
+
+
+@dataclass(frozen=True)
+class Limit:
+    """What the whole site may draw, and how cars that ask for more together are held to it; the mode is the header's byte 12."""
+
+    kw: float
+    mode: int
+
+    def in_words(self):
+        return f"{self.kw:g} kW" + (", shared evenly" if self.mode == SHARED_EVENLY else "")
 
 
 @dataclass(frozen=True)
@@ -27,10 +39,10 @@ class Part:
 
 @dataclass(frozen=True)
 class Plan:
-    """A plan's parts in the order of its blocks, the header first; the site limit in kW, if there is one."""
+    """A plan's parts in the order of its blocks, the header first; the site limit, if there is one."""
 
     name: str
-    limit: float | None
+    limit: Limit | None
     parts: list
 
     def data(self):
@@ -56,9 +68,9 @@ def planned(name, limit, queue_places, parts):
 
 
 def header_body(limit, queue_places, counts):
-    has_limit = limit is not None
+    mode, kw = (0, 0.0) if limit is None else (limit.mode, limit.kw)
     by_fleet = bytes(queue_places.get(fleet, 0) for fleet in range(1, FLEETS + 1))
-    return b"PLAN" + struct.pack("<HHHxxBxxxd", *counts, has_limit, limit if has_limit else 0.0) + by_fleet
+    return b"PLAN" + struct.pack("<HHHxxBxxxd", *counts, mode, kw) + by_fleet
 
 
 def from_bytes(name, data):
@@ -81,4 +93,5 @@ def id_of(body):
 
 
 def limit_of(bodies):
-    return struct.unpack("<d", bodies[0][16:24])[0] if bodies and bodies[0][12] else None
+    mode, kw = struct.unpack_from("<Bxxxd", bodies[0], 12) if bodies else (0, 0.0)
+    return Limit(kw, mode) if mode else None

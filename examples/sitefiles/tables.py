@@ -83,7 +83,7 @@ def or_empty(value, spell):
 def warnings(book, plan=None):
     """What a reader of this book could take for more than it is."""
     if book.engine == "events" and plan is not None and plan.limit is not None:
-        yield f"the plan limits the site to {plan.limit:g} kW, which a run by events ignores; run it by steps to obey the limit"
+        yield f"the plan limits the site to {plan.limit.in_words()}, which a run by events ignores; run it by steps to obey the limit"
     if not book.ended:
         yield f"the run has not ended: its allowance of {counted(book.used, 'unit')} is used up; {', '.join(unfinished(book, plan))}"
 

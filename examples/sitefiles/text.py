@@ -1,4 +1,5 @@
-"""A plan from its description in text. day.txt shows the form: a kind, an id, and then fields with their values. fleets.txt has fleets too."""
+"""A plan from its description in text. day.txt shows the form: a kind, an id, and then fields with their values. fleets.txt has fleets too,
+even_shares.txt a limit that is shared evenly."""
 import math
 import re
 import struct
@@ -6,12 +7,13 @@ from dataclasses import dataclass
 
 from sitefiles import clock
 from sitefiles.blocks import CONNECTORS
-from sitefiles.plan import FLEETS, KINDS, MOST, MOST_QUEUE_PLACES, Part, planned
+from sitefiles.plan import FLEETS, KINDS, MOST, MOST_QUEUE_PLACES, SCALED, SHARED_EVENLY, Limit, Part, planned
 
 NUMBER = re.compile(r"(-?(?:\d+\.?\d*|\.\d+)(?:[eE][+-]?\d+)?)([a-zA-Z%/]*)", re.ASCII)
 WHOLE = re.compile(r"-?\d+", re.ASCII)
 MOST_POINTS = 30
 MOST_CONNECTORS = 5
+EVENLY = ["shared", "evenly"]
 
 
 class Fault(Exception):
@@ -218,6 +220,18 @@ FIELDS = {
 DEFAULTS = {"charger": {"leads": [0.0] * len(CONNECTORS)}, "vehicle": {"fleet": 0}}
 
 
+# ---- the limit
+
+
+def site_limit(words):
+    """A limit, and behind it the words that have it shared evenly, if they are there."""
+    at = next((k for k, word in enumerate(words) if word in EVENLY), len(words))
+    kw, behind = one(LIMIT)("limit", words[:at]), words[at:]
+    if behind not in ([], EVENLY):
+        raise Fault(" ".join(behind), f"behind a limit can stand {' '.join(EVENLY)}, and nothing else")
+    return Limit(kw, SHARED_EVENLY if behind else SCALED)
+
+
 # ---- the bodies of the blocks
 
 
@@ -277,7 +291,7 @@ class Reader:
         if self.limit_line is not None:
             raise Fault("limit", f"a site has one limit, and it is given on line {self.limit_line}")
         self.limit_line = line
-        self.limit = one(LIMIT)("limit", words)
+        self.limit = site_limit(words)
 
     def read_fleet(self, line, words):
         id = self.new_id(line, "fleet", words)

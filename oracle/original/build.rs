@@ -20,7 +20,7 @@ use change::{Change, changed, stop};
 use changes::CHANGES;
 
 /// Each module with its files. The original's own `mod.rs` files are not among those published.
-const MODULES: [(&str, &[&str]); 8] = [
+const MODULES: [(&str, &[&str]); 9] = [
     ("errors", &["errors.rs"]),
     ("events", &["events.rs"]),
     ("geo", &["geo.rs"]),
@@ -29,7 +29,10 @@ const MODULES: [(&str, &[&str]); 8] = [
     ("ev", &["ev/charge_profile.rs", "ev/vehicle.rs"]),
     ("evse", &["evse/charger.rs", "evse/connector.rs", "evse/site.rs"]),
     ("simulation", &["simulation/discrete.rs", "simulation/timestep.rs"]),
+    (SHARES, &["shares.rs"]),
 ];
+/// The module that the original does not have. Its file stands beside this one, and is copied so that a slip can change it.
+const SHARES: &str = "shares";
 
 fn main() {
     println!("cargo::rerun-if-env-changed=ORIGINAL");
@@ -42,8 +45,9 @@ fn main() {
     }
     let mut tree = String::new();
     for (module, files) in MODULES {
+        let from = if module == SHARES { &own_folder() } else { &from };
         for file in files {
-            copy(&from, &to, file, &changes);
+            copy(from, &to, file, &changes);
         }
         tree.push_str(&declaration(&to, module, files));
     }
@@ -55,8 +59,13 @@ fn main() {
     fs::write(to.with_file_name("modules.rs"), tree).unwrap();
 }
 
+/// The crate that is built is this folder's, or `slipped` beside it.
+fn own_folder() -> PathBuf {
+    PathBuf::from(env::var("CARGO_MANIFEST_DIR").unwrap()).with_file_name("original")
+}
+
 fn original_folder() -> PathBuf {
-    let here = PathBuf::from(env::var("CARGO_MANIFEST_DIR").unwrap());
+    let here = own_folder();
     let repository = here.ancestors().nth(2).unwrap();
     let folder = match env::var("ORIGINAL") {
         Ok(folder) => repository.join(folder),

@@ -4,7 +4,7 @@ use crate::change::{Change, change};
 const STD_HEAP: &str = "use std::collections::BinaryHeap;\n";
 const STAND_IN_HEAP: &str = "use binary_heap::BinaryHeap;\n";
 
-pub const CHANGES: [Change; 28] = [
+pub const CHANGES: [Change; 31] = [
     // The stand-in for the heap, and what it pops by, which is request 4's. (The map's stand-in takes the crate's own name.)
     change("containers/vehicle_list.rs", STD_HEAP, STAND_IN_HEAP),
     change("evse/charger.rs", STD_HEAP, STAND_IN_HEAP),
@@ -133,6 +133,34 @@ const DEFAULT_MAX_POWER_KW: f64 = 480.0;
     ),
     change("simulation/discrete.rs", BALKS, BALKS_BY_FLEET),
     change("simulation/timestep.rs", BALKS, BALKS_BY_FLEET),
+    // Request 10: the charging cars share the limit evenly, by shares.rs, and nothing is scaled.
+    change(
+        "evse/site.rs",
+        "    pub fleet_places: [u8; 64],\n",
+        "    pub fleet_places: [u8; 64],\n    pub even_shares: bool,\n",
+    ),
+    change(
+        "evse/site.rs",
+        "            fleet_places: [0; 64],\n",
+        "            fleet_places: [0; 64],\n            even_shares: false,\n",
+    ),
+    change(
+        "evse/site.rs",
+        "        // If the total requested power is more than the site limit then scale all\n",
+        "        if let Some(limit_kw) = self.site_max_power_kw.filter(|_| self.even_shares) {
+            let of_charging_cars = |state: &&mut ChargerState| state.status == crate::evse::ChargerStatus::Charging;
+            let charging: Vec<_> = active_charger_states.values_mut().filter(of_charging_cars).collect();
+            let request_kw = |state: &&mut ChargerState| state.requested_power_kw.min(state.charger_max_power_kw);
+            let requests_kw: Vec<f64> = charging.iter().map(request_kw).collect();
+            for (state, cap_kw) in charging.into_iter().zip(crate::shares::caps(&requests_kw, limit_kw)) {
+                state.max_power_kw = cap_kw;
+            }
+            return Ok(());
+        }
+
+        // If the total requested power is more than the site limit then scale all
+",
+    ),
     // The builder of vehicles samples; the oracle makes vehicles from the plan.
     change("ev/vehicle.rs", "use crate::distributions::{DurationSampler, ItemSampler, SocSampler};\n", ""),
     change("ev/vehicle.rs", "use rand::Rng;\n", ""),

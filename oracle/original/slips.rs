@@ -1,7 +1,7 @@
 //! Slips, each one further change, for a copy that the comparison must tell from the original.
 use crate::change::{Change, change};
 
-pub const SLIPS: [(&str, Change); 34] = [
+pub const SLIPS: [(&str, Change); 51] = [
     // The order of one second.
     (
         "arrivals-before-unplugs",
@@ -164,6 +164,45 @@ pub const SLIPS: [(&str, Change); 34] = [
     ),
     ("fleet-before-the-chargers-by-events", change("simulation/discrete.rs", FREE_BY_EVENTS, FREE_AND_PLACES)),
     ("fleet-before-the-chargers-by-steps", change("simulation/timestep.rs", FREE_BY_STEPS, FREE_AND_PLACES)),
+    // Even shares of the limit.
+    ("watts-rounded-up", change(SHARES, "1_000 * u128::from(mantissa)", ROUNDED_UP)),
+    ("watts-to-the-nearest", change(SHARES, WHOLE_WATTS, TO_THE_NEAREST)),
+    ("watts-by-the-float-product", change(SHARES, WHOLE_WATTS, "(power_kw * 1_000.0) as u64")),
+    ("requests-by-the-float-product", change(SHARES, "watts(*request_kw)", "(request_kw * 1_000.0) as u64")),
+    ("limit-by-the-float-product", change(SHARES, "watts(limit_kw)", "(limit_kw * 1_000.0) as u64")),
+    ("level-from-the-mean", change(SHARES, "level(requests, limit);\n", "limit / requests.len() as u64;\n")),
+    ("level-by-one-pass", change(SHARES, "level(requests, limit);\n", ONE_PASS)),
+    ("left-over-by-plug-in", change("evse/site.rs", BY_CHARGER_PLACE, BY_PLUG_IN)),
+    ("left-over-from-the-last-place", change(SHARES, "short.into_iter()", "short.into_iter().rev()")),
+    ("left-over-to-the-first-alone", change(SHARES, "shares[place] += 1;", "shares[place] += left;\n        break;")),
+    ("left-over-to-every-place", change(SHARES, "shares[*k] < requests[*k]", "*k < shares.len()")),
+    ("left-over-lost", change(SHARES, ".take(left as usize)", ".take(0)")),
+    ("share-times-a-thousandth", change(SHARES, "watts as f64 / 1_000.0", "watts as f64 * 0.001")),
+    (
+        "idle-has-a-share",
+        change(
+            "evse/site.rs",
+            "state.status == crate::evse::ChargerStatus::Charging",
+            "state.charger_max_power_kw > 0.0",
+        ),
+    ),
+    (
+        "uncapped-request-of-a-share",
+        change(
+            "evse/site.rs",
+            "state.requested_power_kw.min(state.charger_max_power_kw);",
+            "state.requested_power_kw;",
+        ),
+    ),
+    (
+        "whole-watts-only-where-the-limit-binds",
+        change(
+            "evse/site.rs",
+            "filter(|_| self.even_shares)",
+            "filter(|kw| self.even_shares && total_requested_power_kw > *kw)",
+        ),
+    ),
+    ("lone-car-in-fractions", change("evse/site.rs", CAPS, LONE_CAR)),
     // The cap on the power. The first two leave request 13's law as it is: what they make of the cap still rises with it.
     (
         "caps-after-the-average",
@@ -233,6 +272,26 @@ const FREE_AND_PLACES: &str = "Some(&mut self.site)
                         .filter(|site| !self.waiting_queue.fleet_is_full(vehicle, &self.vehicle_list, &site.fleet_places))
                         .and_then(|site| site.get_unoccupied_charger_of_type_mut(&vehicle.connectors))
 ";
+const SHARES: &str = "shares.rs";
+const ROUNDED_UP: &str = "1_000 * u128::from(mantissa) + (1 << (1_075 - exponent.max(1)).min(127)) - 1";
+const WHOLE_WATTS: &str = "(thousandfold >> (1_075 - exponent.max(1)).min(127)) as u64";
+const TO_THE_NEAREST: &str = "(thousandfold >> (1_074 - exponent.max(1)).min(127)).div_ceil(2) as u64";
+const ONE_PASS: &str = "{
+        let mean = limit / requests.len() as u64;
+        let small: Vec<u64> = requests.iter().copied().filter(|request| *request <= mean).collect();
+        (limit - small.iter().sum::<u64>()) / (requests.len() - small.len()) as u64
+    };
+";
+const BY_CHARGER_PLACE: &str =
+    "let charging: Vec<_> = active_charger_states.values_mut().filter(of_charging_cars).collect();";
+const BY_PLUG_IN: &str =
+    "let mut charging: Vec<_> = active_charger_states.values_mut().filter(of_charging_cars).collect();
+            charging.sort_by_key(|state| state.session_idx);";
+const CAPS: &str = "crate::shares::caps(&requests_kw, limit_kw)";
+const LONE_CAR: &str = "match requests_kw[..] {
+                [request_kw] => vec![request_kw.min(limit_kw)],
+                _ => crate::shares::caps(&requests_kw, limit_kw),
+            }";
 const CAPPED: &str = "            let power_start = self.power_at(soc_seg_start)?.min(max_power_kw);
             let power_end = self.power_at(soc_seg_end)?.min(max_power_kw);
             let avg_power = 0.5 * (power_start + power_end);

@@ -4,6 +4,7 @@ use crate::book::{LEAST_BOOK, slots};
 use crate::generate::Case;
 use crate::plan::{self, Plan, Vehicle};
 use crate::{Numbers, run};
+use original::shares::{kilowatts, watts};
 
 type Found = Result<(), String>;
 
@@ -51,7 +52,11 @@ pub fn one_run(case: &Case, run: &Run) -> Found {
     demand(case.engine == 1 || numbers[7] == 0, "an event run leaves no session open")?;
     header(case, run)?;
     sessions(&plan, run)?;
-    if case.engine == 1 { no_free_charger_fits(&plan, run) } else { handled_adds_up(&plan, run) }
+    if case.engine == 0 {
+        return handled_adds_up(&plan, run);
+    }
+    peaks_are_shares(&plan, run)?;
+    no_free_charger_fits(&plan, run)
 }
 
 fn header(case: &Case, run: &Run) -> Found {
@@ -110,6 +115,18 @@ fn no_free_charger_fits(plan: &Plan, run: &Run) -> Found {
     let free = (0..plan.chargers.len()).filter(|c| !busy.contains(&plan.chargers[*c].id));
     for charger in free {
         demand(queued.iter().all(|v| !fits(plan, *v, charger)), "no free charger fits a queued vehicle")?;
+    }
+    Ok(())
+}
+
+/// Request 10: what a car is delivered is its share, whole watts that the limit has.
+fn peaks_are_shares(plan: &Plan, run: &Run) -> Found {
+    let Some(limit) = plan.limit.filter(|_| plan.even_shares) else { return Ok(()) };
+    let peaks = run.sessions().into_iter().filter(|session| session[13] == 1).map(|session| f64_at(session, 64));
+    for peak in peaks {
+        let share = (1_000.0 * peak).round() as u64;
+        let within = (1..=watts(limit)).contains(&share);
+        demand(within && kilowatts(share) == peak, "a peak under even shares is whole watts of the limit")?;
     }
     Ok(())
 }

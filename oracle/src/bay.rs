@@ -36,6 +36,20 @@ pub fn lane() -> Draft {
     draft
 }
 
+/// Cars 1 to 3, which ask for 100, 500 and 900 W from second 1 on, share the limit evenly beside car 4, which is parked then.
+pub fn shared(limit: f64) -> Draft {
+    let car = Car { start: 0.5, target: 0.51, idle: 0.0, arrival: 1, ..Car::default() };
+    let parked = Car { codes: vec![1], idle: 300.0, ..brief(0, 0, 0) };
+    let mut draft = bay(&[car.clone(), car.clone(), car, parked]);
+    draft.profiles[0] = profile(1, 1.0, &[(0.5, 0.9)]);
+    draft.chargers[0] = charger(1, &[], 50.0, 1.0, 100.0);
+    draft.chargers.push(charger(2, &[], 0.5, 1_200.0, 400.0));
+    draft.chargers.push(charger(3, &[], 50.0, 1_200.0, 400.0));
+    draft.chargers.push(charger(4, &[1], 50.0, 1_200.0, 400.0));
+    draft.set_even_shares(limit);
+    draft
+}
+
 /// M1 to M12 in order; M8 and M9 as two cars at two chargers under a site limit, for a few rounds.
 pub fn worked() -> Vec<Vec<u8>> {
     let second = |wait, queue_limit| bay(&[Car::default(), Car { arrival: 200, wait, queue_limit, ..Car::default() }]);

@@ -104,6 +104,7 @@ impl Accepted {
         if let Some(limit) = plan.limit {
             site.site_max_power_kw(limit);
         }
+        site.even_shares = plan.even_shares;
         site.fleet_places = plan.places;
         (plan, site, VehicleList::new(vehicles), ChargeProfileList::new(profiles))
     }

@@ -25,6 +25,12 @@ impl Draft {
         put_f64(&mut self.header, 16, limit);
     }
 
+    /// A limit that is shared evenly.
+    pub fn set_even_shares(&mut self, limit: f64) {
+        self.set_limit(limit);
+        self.header[12] = 2;
+    }
+
     /// The queue places of a fleet, which is 1 to 64.
     pub fn set_places(&mut self, fleet: u16, places: u8) {
         self.header[PLACES][usize::from(fleet) - 1] = places;

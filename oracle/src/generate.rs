@@ -1,5 +1,6 @@
 //! Cases by seed and index: plans of many shapes, good and refused, with an engine, an allowance and a book.
 mod faults;
+pub mod shares;
 mod site;
 
 use crate::blocks::{BLOCK, put};
@@ -26,7 +27,7 @@ pub struct Case {
 type Shape = (&'static str, u64, fn(&mut Draw) -> Case);
 
 /// Each shape with its weight.
-pub const SHAPES: [Shape; 21] = [
+pub const SHAPES: [Shape; 22] = [
     ("few", 8, |d| good(d, FEW)),
     ("contention", 14, |d| good(d, CONTENTION)),
     ("ties at one second", 16, |d| good(d, TIES)),
@@ -40,6 +41,7 @@ pub const SHAPES: [Shape; 21] = [
     ("connectors", 6, |d| good(d, Style { connectors: true, chargers: [1, 4], ..CONTENTION })),
     ("amps by lead", 10, |d| good(d, Style { connectors: true, caps: true, chargers: [1, 4], ..CONTENTION })),
     ("places by fleet", 12, fleets),
+    ("even shares", 14, even_shares),
     ("empty", 2, empty),
     ("largest", 1, |d| good(d, LARGEST)),
     ("far times", 1, |d| good(d, Style { clock: Clock::Far, ..FEW })),
@@ -97,6 +99,13 @@ fn fleets(draw: &mut Draw) -> Case {
         _ => FLEETS,
     };
     good(draw, style)
+}
+
+/// Mostly by steps: by events the shares do nothing.
+fn even_shares(draw: &mut Draw) -> Case {
+    let plan = shares::draft(draw).bytes();
+    let engine = u32::from(!draw.one_in(8));
+    call_by(draw, plan, engine, Clock::Short)
 }
 
 fn empty(draw: &mut Draw) -> Case {

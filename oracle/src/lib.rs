@@ -18,6 +18,7 @@ pub mod late;
 pub mod plan;
 pub mod program;
 pub mod recording;
+pub mod share_lists;
 pub mod shrink;
 pub mod sides;
 pub mod slipped;

@@ -69,6 +69,8 @@ pub struct Vehicle {
 #[derive(Debug)]
 pub struct Plan {
     pub limit: Option<f64>,
+    /// Request 10: the limit is shared evenly.
+    pub even_shares: bool,
     /// Request 9: the queue places of fleets 1 to 64, in order.
     pub places: [u8; 64],
     pub profiles: Vec<Profile>,
@@ -186,7 +188,7 @@ fn well_formed(kind: Kind, block: &[u8]) -> bool {
 fn header_fields(block: &[u8]) -> bool {
     let limit = match block[12] {
         0 => zero(&block[16..24]),
-        1 => within(block, 16, 0.125, 65_536.0),
+        1 | 2 => within(block, 16, 0.125, 65_536.0),
         _ => false,
     };
     limit
@@ -283,7 +285,8 @@ fn plan_of(blocks: &Blocks) -> Plan {
         fleet: u16_at(block, FLEET),
     };
     Plan {
-        limit: (blocks.bytes[12] == 1).then(|| f64_at(blocks.bytes, 16)),
+        limit: (blocks.bytes[12] != 0).then(|| f64_at(blocks.bytes, 16)),
+        even_shares: blocks.bytes[12] == 2,
         places: blocks.bytes[PLACES].try_into().unwrap(),
         profiles: blocks.of(Kind::Profile).map(profile).collect(),
         chargers: blocks.of(Kind::Charger).map(charger).collect(),

@@ -37,7 +37,7 @@ fn with(case: &Case, draft: Draft) -> Case {
     Case { plan: draft.bytes(), ..case.clone() }
 }
 
-/// The cases with one block or one point less, the site limit gone, or several blocks less at once.
+/// The cases with one block or one point less, the site limit gone or not shared evenly, or several blocks less at once.
 fn drops(case: &Case) -> Vec<Case> {
     let Some(draft) = Draft::of(&case.plan) else { return Vec::new() };
     let mut smaller = Vec::new();
@@ -75,6 +75,11 @@ fn drops(case: &Case) -> Vec<Case> {
     if draft.header[12] != 0 {
         let mut less = draft.clone();
         less.header[12..24].fill(0);
+        smaller.push(with(case, less));
+    }
+    if draft.header[12] == 2 {
+        let mut less = draft.clone();
+        less.header[12] = 1;
         smaller.push(with(case, less));
     }
     smaller
@@ -219,7 +224,7 @@ fn plainer_blocks(draft: &Draft, k: usize, block: &Block) -> Vec<Block> {
     let ids = [0, 1, 2, 3, 4, k as u32];
     let mut plainer = Vec::new();
     if k == 0 {
-        if block[12] == 1 {
+        if block[12] != 0 {
             plainer.extend(plainer_float(block, 16, &powers));
         }
     } else if k <= profiles {

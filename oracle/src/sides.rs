@@ -5,7 +5,7 @@ use crate::generate::Case;
 use crate::{Numbers, cuts, late, program};
 use std::cell::RefCell;
 use std::io::Write;
-use std::path::PathBuf;
+use std::path::{Path, PathBuf};
 use std::process::{Command, Stdio};
 use std::sync::LazyLock;
 
@@ -97,13 +97,13 @@ pub fn first_byte(wanted: &[u8], got: &[u8]) -> Option<String> {
     ))
 }
 
-fn difference_by_program(path: &PathBuf, case: &Case) -> Option<String> {
+fn difference_by_program(path: &Path, case: &Case) -> Option<String> {
     let input = program::input(case.engine.min(255) as u8, case.allowance, &case.plan);
     difference_on_input(path, &input)
 }
 
-/// The difference of the program's output on an input of any length.
-pub fn difference_on_input(path: &PathBuf, input: &[u8]) -> Option<String> {
+/// What a program writes for an input.
+pub fn output_of(path: &Path, input: &[u8]) -> Vec<u8> {
     let cannot = |error: std::io::Error| -> ! { stop(format!("{} cannot be run: {error}", path.display())) };
     let started = Command::new(path).stdin(Stdio::piped()).stdout(Stdio::piped()).spawn();
     let mut child = started.unwrap_or_else(|error| cannot(error));
@@ -111,8 +111,14 @@ pub fn difference_on_input(path: &PathBuf, input: &[u8]) -> Option<String> {
     let owned = input.to_vec();
     // A program that stops reading early closes the pipe; its output tells.
     let feeder = std::thread::spawn(move || drop(stdin.write_all(&owned)));
-    let got = child.wait_with_output().unwrap_or_else(|error| cannot(error)).stdout;
+    let output = child.wait_with_output().unwrap_or_else(|error| cannot(error)).stdout;
     feeder.join().unwrap();
+    output
+}
+
+/// The difference of the program's output on an input of any length.
+pub fn difference_on_input(path: &Path, input: &[u8]) -> Option<String> {
+    let got = output_of(path, input);
     let (wanted, _) = program::output(input);
     if wanted == got {
         return None;

@@ -42,7 +42,9 @@ fn wrong_checks_of(bytes: &[u8]) -> String {
 fn parts(draft: &Draft) -> String {
     let mut text = String::new();
     if draft.header[12] != 0 {
-        let _ = writeln!(text, "  site limit {:?} kW (byte 12 is {})", f64_at(&draft.header, 16), draft.header[12]);
+        let evenly = if draft.header[12] == 2 { ", shared evenly" } else { "" };
+        let limit = f64_at(&draft.header, 16);
+        let _ = writeln!(text, "  site limit {limit:?} kW{evenly} (byte 12 is {})", draft.header[12]);
     }
     for fleet in (1..=MOST_FLEETS).filter(|fleet| draft.places(*fleet) > 0) {
         let _ = writeln!(text, "  fleet {fleet}: {} queue places", draft.places(fleet));

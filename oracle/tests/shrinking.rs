@@ -1,7 +1,7 @@
 //! Plans in parts, and the shrinking of cases.
 mod common;
 
-use common::{ENOUGH, EVENTS};
+use common::{ENOUGH, EVENTS, STEPS};
 use oracle::draft::Draft;
 use oracle::draw::Draw;
 use oracle::generate::{self, Case};
@@ -65,6 +65,32 @@ fn fleets_shrink_to_one_without_places() {
         }
     }
     assert!(shrunk > 20);
+}
+
+/// A case whose run is another where the limit is scaled to.
+#[test]
+fn even_shares_shrink_to_one_car_or_two() {
+    let ran = |draft: &Draft, allowance| {
+        let mut book = vec![0; 7_168];
+        (oracle::run(&draft.bytes(), STEPS, allowance, &mut book), book)
+    };
+    let matters = |case: &Case| {
+        let Some(mut draft) = Draft::of(&case.plan).filter(|draft| draft.header[12] == 2) else { return false };
+        let even = ran(&draft, case.allowance);
+        draft.header[12] = 1;
+        even.0[0] == 0 && even != ran(&draft, case.allowance)
+    };
+    let mut shrunk = 0;
+    for index in 0..40 {
+        let case = generate::shaped("even shares", &mut Draw::new(6, index));
+        if case.plan.len() <= 12 * 512 && matters(&case) {
+            let plan = plan::read(&shrink(case, matters).plan).unwrap();
+            assert_eq!(plan.vehicles.len(), plan.chargers.len(), "case {index}");
+            assert!(plan.vehicles.len() <= 2 && plan.even_shares, "case {index}");
+            shrunk += 1;
+        }
+    }
+    assert!(shrunk > 5);
 }
 
 #[test]

@@ -6,6 +6,7 @@ ghost use Rattle.files.specs.HotDay.{HotDayOfRun, BookByRating};
 ghost use Rattle.files.specs.Fleets.{FleetsWithin, FleetsCarried, AsBefore};
 ghost use Rattle.dump.specs.Call.{dump_answer, dump_book, dump_left, continued_to, continued_answer, continued_book};
 ghost use Rattle.dump.specs.Continued.{Unbroken, FitsBuffer, Determines, BlocksPass, Continues, SessionsOfBook, Reached, InParts, EndedStays, MoreStays};
+ghost use Rattle.files.specs.EvenShares.{LimitIgnored};
 
 use dump::call;
 use dump::resume::resume;
@@ -47,6 +48,7 @@ pub extern "C" fn site_dump(
     ensures fleets { FleetsWithin plan.now 0 allowance (dump_answer plan.now engine allowance (length book.old) (length dump.old)) }
     ensures carried { FleetsCarried plan.now book.new (dump_answer plan.now engine allowance (length book.old) (length dump.old)) }
     ensures no_fleets { AsBefore plan.now (dump_answer plan.now engine allowance (length book.old) (length dump.old)) }
+    ensures no_limit { LimitIgnored plan.now 0 (dump_answer plan.now engine allowance (length book.old) (length dump.old)) }
 {
     *numbers = run_numbers(call::dump(plan, engine, allowance, book, dump));
 }
@@ -84,6 +86,7 @@ pub extern "C" fn site_continue(
     ensures fleets { FleetsWithin plan.now 0 (continued_to dump.now further) (continued_answer plan.now dump.now further (length book.old)) }
     ensures carried { FleetsCarried plan.now book.new (continued_answer plan.now dump.now further (length book.old)) }
     ensures no_fleets { AsBefore plan.now (continued_answer plan.now dump.now further (length book.old)) }
+    ensures no_limit { LimitIgnored plan.now 0 (continued_answer plan.now dump.now further (length book.old)) }
 {
     *numbers = run_numbers(resume(plan, dump, further, book));
 }

@@ -12,6 +12,7 @@ ghost use Rattle.files.specs.Call.{answer_of, book_left};
 ghost use Rattle.files.specs.Demand.{ReadsBack, UnitsUsed, FreeKnown, NoFreeFits, OneSpot, OneById, AddUp, CountsOfBook, ClosedStay, ExactWaits, Handled, EventsEnd, StepsEnd};
 ghost use Rattle.files.specs.HotDay.{HotDayOfPlan, HotDayOfRun, BookByRating};
 ghost use Rattle.files.specs.Fleets.{FleetsWithin, FleetsCarried, AsBefore};
+ghost use Rattle.files.specs.EvenShares.{SharedEvenly, LimitIgnored};
 
 use files::call::{check, run};
 use plan::answer::{check_numbers, run_numbers};
@@ -50,11 +51,13 @@ pub extern "C" fn site_run(
     ensures handled { Handled plan.now engine allowance (answer_of plan.now engine allowance (length book.old)) }
     ensures events { EventsEnd plan.now engine allowance (answer_of plan.now engine allowance (length book.old)) }
     ensures steps { StepsEnd plan.now engine allowance (answer_of plan.now engine allowance (length book.old)) }
+    ensures shares { SharedEvenly plan.now engine (answer_of plan.now engine allowance (length book.old)) }
     ensures hot_day { HotDayOfRun plan.now (answer_of plan.now engine allowance (length book.old)) }
     ensures rating { BookByRating plan.now engine book.new (answer_of plan.now engine allowance (length book.old)) }
     ensures fleets { FleetsWithin plan.now engine allowance (answer_of plan.now engine allowance (length book.old)) }
     ensures carried { FleetsCarried plan.now book.new (answer_of plan.now engine allowance (length book.old)) }
     ensures no_fleets { AsBefore plan.now (answer_of plan.now engine allowance (length book.old)) }
+    ensures no_limit { LimitIgnored plan.now engine (answer_of plan.now engine allowance (length book.old)) }
 {
     *numbers = run_numbers(run(plan, engine, allowance, book));
 }

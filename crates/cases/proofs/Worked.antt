@@ -20,7 +20,9 @@ use Rattle.engine.specs.SiteState.{balks, uncharged, start_charging}
 use Rattle.engine.specs.Discrete as D
 use Rattle.power.specs.ChargerState.{empty, after_idling}
 use Rattle.power.specs.ChargerState as C
-use Rattle.power.specs.Power.{allocate}
+use Rattle.power.specs.Power.{scaled_caps, even_caps, caps, allocate}
+use Rattle.shares.specs.Watts.{watts_of, kilowatts_of}
+use Rattle.shares.specs.Shares.{total, cut, highest, level, given, left_over, shares}
 use Rattle.engine.specs.Timestep.{open_session, plugged, finalized, round}
 use Rattle.engine.specs.Demand.{Stop}
 use Rattle.plan.specs.Bytes.{le_at, bytes, fields, pieces}
@@ -49,8 +51,8 @@ use Rattle.plan.specs.declared.answer.Refusal.TheVariants.{Broken, CannotCharge,
 use Rattle.plan.specs.declared.answer.Rule.TheVariants.{Field}
 use Rattle.engine.specs.declared.session.Session.{Session}
 use Rattle.engine.specs.declared.session.Outcome.TheVariants.{Charged}
-use Rattle.cases.specs.Bay.{kwh, Bay, plan, bay, second_car, at_target, at_one_kw, nacs_capped, vans, late_car}
-use Rattle.cases.specs.Cases.{dump, refused, ended, charged, one_round, events, steps, run, book_late, Result, if_fine, back_from, if_booked, result, Worked, ◌gives◌, Holds, worked}
+use Rattle.cases.specs.Bay.{kwh, Bay, plan, bay, second_car, at_target, at_target_under, three_tenths, at_one_kw, nacs_capped, vans, late_car}
+use Rattle.cases.specs.Cases.{dump, refused, ended, charged, one_round, one_round_at, watt, events, steps, run, book_late, Result, if_fine, back_from, if_booked, result, Worked, ◌gives◌, Holds, worked}
 use Rattle.std.specs.Prelude.{Result as Answered, Ok, Err}
 use Rattle.plan.specs.declared.answer.Refusal.{Refusal}
 
@@ -68,7 +70,7 @@ check b = check_plan (plan b)
 
 stop : ℕ → ℕ → Bay → Stop
 unfolding read before start_charging balks fleet_full queued_of uncharged fits rated output stay ceiling D.step D.charged_session
-    allocate C.after_charging after_idling empty open_session plugged finalized round of_int to_unsigned
+    allocate caps scaled_caps even_caps C.after_charging after_idling empty open_session plugged finalized round of_int to_unsigned
 stop engine n b = stop_of (read b) engine n
 
 -- the dump of a plan's run
@@ -136,6 +138,18 @@ fleet_refused = refl
 places_refused : check (vans 1 65) ≡ Err (Broken Field 1)
 unfolding check
 places_refused = refl
+
+scaled_fine : check (at_target_under (three_tenths 1)) ≡ Ok tt
+unfolding check
+scaled_fine = refl
+
+shared_fine : check (at_target_under (three_tenths 2)) ≡ Ok tt
+unfolding check
+shared_fine = refl
+
+mode_refused : check (at_target_under (three_tenths 3)) ≡ Err (Broken Field 1)
+unfolding check
+mode_refused = refl
 
 -- ---- a late booking: with M2's second car M1's longer plan is M2's
 
@@ -311,6 +325,72 @@ case_25 : Holds (at 25)
 unfolding worked result stop dumped back
 case_25 = by events 10 (vans 1 65) places_refused refl
 
+case_26 : Holds (at 26)
+unfolding worked result stop dumped back shares total cut highest level given left_over watts_of kilowatts_of
+case_26 = refl
+
+case_27 : Holds (at 27)
+unfolding worked result stop dumped back shares total cut highest level given left_over watts_of kilowatts_of
+case_27 = refl
+
+case_28 : Holds (at 28)
+unfolding worked result stop dumped back shares total cut highest level given left_over watts_of kilowatts_of
+case_28 = refl
+
+case_29 : Holds (at 29)
+unfolding worked result stop dumped back shares total cut highest level given left_over watts_of kilowatts_of
+case_29 = refl
+
+case_30 : Holds (at 30)
+unfolding worked result stop dumped back shares total cut highest level given left_over watts_of kilowatts_of
+case_30 = refl
+
+case_31 : Holds (at 31)
+unfolding worked result stop dumped back shares total cut highest level given left_over watts_of kilowatts_of
+case_31 = refl
+
+case_32 : Holds (at 32)
+unfolding worked result stop dumped back shares total cut highest level given left_over watts_of kilowatts_of
+case_32 = refl
+
+abbrev scaled_session : Session
+scaled_session = record m10_session { peak = record { 0 = fin false 5404319552844595 (negsuc 53) }; energy = record { 0 = fin false 6148914691236517 (negsuc 65) } }
+
+scaled_run : if_fine (Ok tt) (stop steps 10 (at_target_under (three_tenths 1))) ≡ ended 3 (scaled_session ∷ [])
+unfolding stop shares total cut highest level given left_over watts_of kilowatts_of
+scaled_run = refl
+
+scaled_wanted : scaled_session ≡ charged 0 0 2 0 (one_round_at (record { 0 = ratio 3 10 })) (record { 0 = ratio 3 2 })
+unfolding ratio mul div
+scaled_wanted = refl
+
+case_33 : Holds (at 33)
+unfolding worked result stop dumped back shares total cut highest level given left_over watts_of kilowatts_of
+case_33 = by steps 10 (at_target_under (three_tenths 1)) scaled_fine (scaled_run ∙ ap (λ (s : Session). ended 3 (s ∷ [])) scaled_wanted)
+
+abbrev shared_session : Session
+shared_session = record m10_session { peak = record { 0 = fin false 5386305154335113 (negsuc 53) }; energy = record { 0 = fin false 6128418308932395 (negsuc 65) } }
+
+shared_run : if_fine (Ok tt) (stop steps 10 (at_target_under (three_tenths 2))) ≡ ended 3 (shared_session ∷ [])
+unfolding stop shares total cut highest level given left_over watts_of kilowatts_of
+shared_run = refl
+
+shared_wanted : shared_session ≡ charged 0 0 2 0 (one_round_at (watt 299)) (record { 0 = ratio 3 2 })
+unfolding ratio mul div
+shared_wanted = refl
+
+case_34 : Holds (at 34)
+unfolding worked result stop dumped back shares total cut highest level given left_over watts_of kilowatts_of
+case_34 = by steps 10 (at_target_under (three_tenths 2)) shared_fine (shared_run ∙ ap (λ (s : Session). ended 3 (s ∷ [])) shared_wanted)
+
+case_35 : Holds (at 35)
+unfolding worked result stop dumped back shares total cut highest level given left_over watts_of kilowatts_of
+case_35 = by events 10 (at_target_under (three_tenths 2)) shared_fine refl
+
+case_36 : Holds (at 36)
+unfolding worked result stop dumped back shares total cut highest level given left_over watts_of kilowatts_of
+case_36 = by steps 10 (at_target_under (three_tenths 3)) mode_refused refl
+
 pub worked_through : All Holds worked
 unfolding worked
 worked_through =
@@ -340,4 +420,15 @@ worked_through =
     and case_23
     and case_24
     and case_25
+    and case_26
+    and case_27
+    and case_28
+    and case_29
+    and case_30
+    and case_31
+    and case_32
+    and case_33
+    and case_34
+    and case_35
+    and case_36
     and none

@@ -1,4 +1,4 @@
--- Rules. The paper's bay as a plan's bytes: one profile, one charger and some cars, no site limit. `ratio a b` is the f64 nearest to a / b.
+-- Rules. The paper's bay as a plan's bytes: one profile, one charger and some cars. `ratio a b` is the f64 nearest to a / b.
 use Rattle.std.specs.Prelude.{ℕ, suc, ◌-◌, List, [], ◌∷◌, ◌++◌, length, Float}
 use Rattle.std.specs.Float.{binary64}
 use Rattle.std.specs.Float.Ieee.{to_bits}
@@ -43,7 +43,13 @@ pub record Car : Type 0 where
   pub queue_limit : ℕ
   pub fleet : ℕ
 
+-- byte 12 of the header, and the site limit
+pub record Limited : Type 0 where
+  pub mode : ℕ
+  pub limit : Kw
+
 pub record Bay : Type 0 where
+  pub limited : Limited
   pub battery : Kwh
   pub points : List Point
   pub max_power : Kw
@@ -61,9 +67,11 @@ block place named = named ++ bytes (508 - length named) 0 ++ bytes 4 (check_of p
 abbrev pub f64 : Float → List ℕ
 f64 x = bytes 8 (to_bits binary64 x)
 
--- the letters PLAN; one profile, one charger, the cars; no site limit; the queue places of its fleets
+-- the letters PLAN; one profile, one charger, the cars; the site limit; the queue places of its fleets
 abbrev pub header : Bay → List ℕ
-header b = 80 ∷ 76 ∷ 65 ∷ 78 ∷ [] ++ bytes 2 1 ++ bytes 2 1 ++ bytes 2 (length b.cars) ++ bytes 14 0 ++ b.queue_places
+header b =
+    80 ∷ 76 ∷ 65 ∷ 78 ∷ [] ++ bytes 2 1 ++ bytes 2 1 ++ bytes 2 (length b.cars) ++ bytes 2 0
+    ++ bytes 4 b.limited.mode ++ f64 b.limited.limit.0 ++ b.queue_places
 
 abbrev pub point_fields : List Point → List ℕ
 point_fields [] = []
@@ -106,10 +114,18 @@ van fleet arrival wait limit =
 abbrev pub car : ℕ → ℕ → ℕ → Car
 car = van 0
 
--- battery 50, one point (0.5, 50), charger 50 kW; by the caps of its leads, the queue places of its fleets and its cars
+-- no site limit: eight zero bytes, which are those of 0 kW
+abbrev pub unlimited : Limited
+unlimited = record { mode = 0; limit = kw 0 }
+
+-- battery 50, one point (0.5, 50), charger 50 kW; by the site limit, the caps of its leads, the queue places of its fleets and its cars
+abbrev pub limited_bay : Limited → List Amperes → List ℕ → List Car → Bay
+limited_bay limited caps places cars =
+    record { limited = limited; battery = kwh 50; points = point (percent 50) (kw 50) ∷ []; max_power = kw 50; caps = caps; queue_places = places; cars = cars }
+
+-- without a limit
 abbrev pub fleet_bay : List Amperes → List ℕ → List Car → Bay
-fleet_bay caps places cars =
-    record { battery = kwh 50; points = point (percent 50) (kw 50) ∷ []; max_power = kw 50; caps = caps; queue_places = places; cars = cars }
+fleet_bay = limited_bay unlimited
 
 -- without fleets
 abbrev pub bay_of : List Amperes → List Car → Bay
@@ -123,16 +139,24 @@ bay = bay_of [] (car 100 1800 10 ∷ [])
 abbrev pub second_car : ℕ → ℕ → Bay
 second_car wait limit = bay_of [] (car 100 1800 10 ∷ car 200 wait limit ∷ [])
 
--- M10 and M11: start = target = 0.5, idle 1.5, arrival 0, wait 1
-abbrev pub at_target : Bay
-at_target =
-    bay_of []
+-- M10 and M11: start = target = 0.5, idle 1.5, arrival 0, wait 1; by the site limit
+abbrev pub at_target_under : Limited → Bay
+at_target_under limited =
+    limited_bay limited [] []
     (record { start = percent 50; target = percent 50; idle = record { 0 = ratio 3 2 }; arrival = 0; wait = 1; queue_limit = 10; fleet = 0 } ∷ [])
+
+abbrev pub at_target : Bay
+at_target = at_target_under unlimited
+
+-- request 10: a limit of 0.3 kW, by the header's byte 12
+abbrev pub three_tenths : ℕ → Limited
+three_tenths mode = record { mode = mode; limit = record { 0 = ratio 3 10 } }
 
 -- M12: a battery charged at 1 kW, the point's power and the charger's, SOC 0 to 1
 abbrev pub at_one_kw : Kwh → Bay
 at_one_kw battery =
     record {
+      limited = unlimited;
       battery = battery;
       points = point (percent 50) (kw 1) ∷ [];
       max_power = kw 1;

@@ -1,4 +1,4 @@
--- Rules. M1 to M12 of the paper's bay, and requests 8, 1, 5, 7 and 9 at it, worked through: one list of cases, each with what it gives.
+-- Rules. M1 to M12 of the paper's bay, and requests 8, 1, 5, 7, 9 and 10 at it, worked through: one list of cases, each with what it gives.
 use Rattle.std.specs.Prelude.{ℕ, ◌+◌, ◌-◌, ◌*◌, ◌≡◌, Bool, true, false, List, [], ◌∷◌, map, Float, set, Result as Answered, Ok, Err}
 use Rattle.curve.specs.F64.{◌⊗◌, ratio}
 use Rattle.curve.specs.Curve.{integrate_over, curve_of}
@@ -7,7 +7,10 @@ use Rattle.curve.specs.declared.charge_profile.ChargingOutput.{ChargingOutput}
 use Rattle.curve.specs.declared.units.Kw.{Kw}
 use Rattle.curve.specs.declared.units.Kwh.{Kwh}
 use Rattle.curve.specs.declared.units.Seconds.{Seconds}
-use Rattle.power.specs.declared.power.Limit.TheVariants.{AtMost}
+use Rattle.power.specs.declared.power.Limit.{Limit}
+use Rattle.power.specs.declared.power.Limit.TheVariants.{AtMost, Shared}
+use Rattle.shares.specs.Watts.{watts_of}
+use Rattle.shares.specs.Shares.{shares}
 use Rattle.engine.specs.declared.session.Session.{Session}
 use Rattle.engine.specs.declared.session.Outcome.TheVariants.{Charged, Reneged, Balked}
 use Rattle.power.specs.declared.charger_state.Status.{Status}
@@ -33,7 +36,7 @@ use Rattle.late_booking.specs.LongerPlan.{longer}
 use Rattle.late_booking.specs.Call.{late_answer}
 use Rattle.book_reader.specs.Reader.{Reading, contents, read_book, session_numbers}
 use Rattle.book_reader.specs.Reader as R
-use Rattle.cases.specs.Bay.{kw, kwh, seconds, percent, point, plan, bay, second_car, at_target, at_one_kw, nacs_capped, vans, late_car}
+use Rattle.cases.specs.Bay.{kw, kwh, seconds, percent, point, plan, bay, second_car, at_target, at_target_under, three_tenths, at_one_kw, nacs_capped, vans, late_car}
 
 -- ---- what a case is, and what it gives
 
@@ -50,7 +53,11 @@ pub data Case : Type 0 where
   -- a battery charged along a profile's points, from a SOC to a SOC, under a power cap
   charge : Kwh → List Point → Float → Float → Kw → Case
   -- power allocated to the bay's chargers under a site limit
-  allot : Kw → List ChargerState → Case
+  allot : Limit → List ChargerState → Case
+  -- a power in whole watts
+  watts : Float → Case
+  -- requests in whole watts under a limit that they share evenly
+  share : List ℕ → ℕ → Case
   -- a run of a plan's bytes by events, dumped after so many of them
   dump : ℕ → List ℕ → Case
   -- a book's bytes read back
@@ -67,6 +74,8 @@ pub data Result : Type 0 where
   takes : ChargingOutput → Result
   -- a power cap for each charger
   caps : List Kw → Result
+  -- whole watts
+  in_watts : List ℕ → Result
   -- a dump's handled count, the queue's blocks, the busy chargers' blocks with their vehicles', the events' times, kinds and blocks
   shows : ℕ → List ℕ → List ℕ → List (List ℕ) → Result
   -- a book's engine, ended and used, and the sixteen numbers of each session
@@ -99,7 +108,9 @@ if_booked (Err x) new = refused x
 unfoldable pub result : Case → Result
 result (run engine allowance plan) = if_fine (check_plan plan) (stop_of (read_plan plan) engine allowance)
 result (charge battery points start target cap) = takes (integrate_over (curve_of points) battery start target cap)
-result (allot limit states) = caps (map (λ (s : ChargerState). s.cap) (allocate (AtMost limit) (λ k. curve_of bay.points) states))
+result (allot limit states) = caps (map (λ (s : ChargerState). s.cap) (allocate limit (λ k. curve_of bay.points) states))
+result (watts x) = in_watts (watts_of x ∷ [])
+result (share requests limit) = in_watts (shares requests limit)
 result (dump n plan) = shown (dump_of plan n)
 result (read_back book) = back_from (read_book book)
 result (book_late n plan car) = if_booked (late_answer plan (dump_of plan n) car 16384) (dump_of (longer plan car) n)
@@ -177,9 +188,16 @@ asks50 status cap =
       vehicle = 0;
     }
 
--- M10: half a second, with one round's energy at 50 kW
+-- M10: half a second, with one round's energy at a power, of 50 kW without a limit
+abbrev pub one_round_at : Kw → ChargingOutput
+one_round_at power = output (record { 0 = ratio 1 2 }) (record { 0 = power.0 ⊗ hours }) power
+
 abbrev pub one_round : ChargingOutput
-one_round = output (record { 0 = ratio 1 2 }) (record { 0 = ratio 50 1 ⊗ hours }) (kw 50)
+one_round = one_round_at (kw 50)
+
+-- request 10: so many watts
+abbrev pub watt : ℕ → Kw
+watt n = record { 0 = ratio n 1000 }
 
 -- request 5: the book of M1, and its session at a connector
 abbrev pub first_car_at : ℕ → BookSession
@@ -226,9 +244,9 @@ worked =
     -- M7 cap 75, SOC 0.5 to 1: 1,440 s; 25 kWh, 62.5 kW
     charge (kwh 50) tapering (percent 50) (percent 100) (kw 75) gives takes (output (seconds 1440) (kwh 25) (record { 0 = ratio 125 2 })) ∷
     -- M8 two 50 kW requests: limit 100 gives caps of 50 each
-    allot (kw 100) (asks50 Charging (kw 25) ∷ asks50 Charging (kw 25) ∷ []) gives caps (kw 50 ∷ kw 50 ∷ []) ∷
+    allot (AtMost (kw 100)) (asks50 Charging (kw 25) ∷ asks50 Charging (kw 25) ∷ []) gives caps (kw 50 ∷ kw 50 ∷ []) ∷
     -- M9 limit 50, the second car Idle, gives the charging car a cap of 50 (request 6)
-    allot (kw 50) (asks50 Charging (kw 25) ∷ asks50 Idle (kw 25) ∷ []) gives caps (kw 50 ∷ kw 50 ∷ []) ∷
+    allot (AtMost (kw 50)) (asks50 Charging (kw 25) ∷ asks50 Idle (kw 25) ∷ []) gives caps (kw 50 ∷ kw 50 ∷ []) ∷
     -- M10 steps: unplug 2, charge duration 0.5, used 3
     run steps 10 (plan at_target) gives ended 3 (charged 0 0 2 0 one_round (record { 0 = ratio 3 2 }) ∷ []) ∷
     -- M11 by events: unplug 2, duration 0
@@ -255,4 +273,20 @@ worked =
     run events 10 (plan (vans 1 1)) gives ended 8 (first_car ∷ balked 2 ∷ charged 1 2020 3940 1820 half_hour (seconds 120) ∷ []) ∷
     run events 10 (plan (vans 65 1)) gives refused (Broken Field 5) ∷
     run events 10 (plan (vans 1 65)) gives refused (Broken Field 1) ∷
+    -- request 10: the odd watt goes to the first place; a small request has its own, and the others share the rest; requests that fit; fewer watts than cars
+    share (1000 ∷ 1000 ∷ 1000 ∷ []) 1000 gives in_watts (334 ∷ 333 ∷ 333 ∷ []) ∷
+    share (100 ∷ 500 ∷ 900 ∷ []) 1001 gives in_watts (100 ∷ 451 ∷ 450 ∷ []) ∷
+    share (100 ∷ 500 ∷ 900 ∷ []) 1500 gives in_watts (100 ∷ 500 ∷ 900 ∷ []) ∷
+    share (5 ∷ 0 ∷ 5 ∷ 5 ∷ []) 2 gives in_watts (1 ∷ 0 ∷ 1 ∷ 0 ∷ []) ∷
+    -- the f64 of 0.3 kW is a little less than 300 W
+    watts (ratio 3 10) gives in_watts (299 ∷ []) ∷
+    -- 1 kW among three that charge, and an Idle car at the second place; two requests of 50 kW that just fit
+    allot (Shared 1000) (asks50 Charging (kw 25) ∷ asks50 Idle (kw 25) ∷ asks50 Charging (kw 25) ∷ asks50 Charging (kw 25) ∷ []) gives
+    caps (watt 334 ∷ watt 0 ∷ watt 333 ∷ watt 333 ∷ []) ∷
+    allot (Shared 100000) (asks50 Charging (kw 25) ∷ asks50 Charging (kw 25) ∷ []) gives caps (kw 50 ∷ kw 50 ∷ []) ∷
+    -- M10 under a limit of 0.3 kW, scaled and shared evenly; M11, which knows no limit; with byte 12 of 3 the header is refused by 7
+    run steps 10 (plan (at_target_under (three_tenths 1))) gives ended 3 (charged 0 0 2 0 (one_round_at (record { 0 = ratio 3 10 })) (record { 0 = ratio 3 2 }) ∷ []) ∷
+    run steps 10 (plan (at_target_under (three_tenths 2))) gives ended 3 (charged 0 0 2 0 (one_round_at (watt 299)) (record { 0 = ratio 3 2 }) ∷ []) ∷
+    run events 10 (plan (at_target_under (three_tenths 2))) gives ended 3 (charged 0 0 2 0 (output (seconds 0) (kwh 0) (kw 0)) (record { 0 = ratio 3 2 }) ∷ []) ∷
+    run steps 10 (plan (at_target_under (three_tenths 3))) gives refused (Broken Field 1) ∷
     []

@@ -7,6 +7,7 @@ ghost use Rattle.files.specs.Code.Running.{Stopped};
 ghost use Rattle.files.specs.Demand.{ReadsBack, UnitsUsed, FreeKnown, NoFreeFits, OneSpot, OneById, AddUp, CountsOfBook, ClosedStay, ExactWaits, Handled, EventsEnd};
 ghost use Rattle.files.specs.HotDay.{HotDayOfRun, BookByRating};
 ghost use Rattle.files.specs.Fleets.{FleetsWithin, FleetsCarried, AsBefore};
+ghost use Rattle.files.specs.EvenShares.{LimitIgnored};
 ghost use Rattle.files.specs.Read.{read_plan};
 ghost use Rattle.dump.specs.Dump.{dump_of};
 ghost use Rattle.dump.specs.Call.{dump_answer, dump_after};
@@ -67,6 +68,7 @@ pub fn dump(
     ensures fleets { FleetsWithin plan.now 0 allowance result }
     ensures carried { FleetsCarried plan.now book.new result }
     ensures no_fleets { AsBefore plan.now result }
+    ensures no_limit { LimitIgnored plan.now 0 result }
 {
     if 0 < engine {
         return Err(Refusal::EngineAbove);

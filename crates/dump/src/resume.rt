@@ -7,6 +7,7 @@ ghost use Rattle.files.specs.Call.{totals, book_after};
 ghost use Rattle.files.specs.Demand.{ReadsBack, UnitsUsed, FreeKnown, NoFreeFits, OneSpot, OneById, AddUp, CountsOfBook, ClosedStay, ExactWaits, Handled, EventsEnd};
 ghost use Rattle.files.specs.HotDay.{HotDayOfRun, BookByRating};
 ghost use Rattle.files.specs.Fleets.{FleetsWithin, FleetsCarried, AsBefore};
+ghost use Rattle.files.specs.EvenShares.{LimitIgnored};
 ghost use Rattle.files.specs.Read.{read_plan};
 ghost use Rattle.dump.specs.Dump.{dump_bytes, starts_with, is_dump};
 ghost use Rattle.dump.specs.Call.{continued_to, continued_answer};
@@ -84,6 +85,7 @@ pub fn resume(plan: &[u8], dump: &[u8], further: u32, book: &mut [u8]) -> Result
     ensures fleets { FleetsWithin plan.now 0 (continued_to dump.now further) result }
     ensures carried { FleetsCarried plan.now book.new result }
     ensures no_fleets { AsBefore plan.now result }
+    ensures no_limit { LimitIgnored plan.now 0 result }
 {
     if 10_000_000 < further {
         return Err(Refusal::AllowanceAbove);

@@ -4,7 +4,9 @@ pub mod Laws
 pub mod Waits
 pub mod Fitted
 pub mod Fleets
+pub mod Alike
 pub mod AsBefore
+pub mod NoLimit
 pub mod Places
 pub mod Simulations
 pub mod Handlers

@@ -16,16 +16,7 @@ NoFleets p = All (λ x. x.fleet ≡ 0) p.vehicles
 
 -- the same plan with other queue places
 abbrev pub with_queue_places : List ℕ → Plan → Plan
-with_queue_places places p =
-    record {
-      limit = p.limit;
-      curve = p.curve;
-      battery = p.battery;
-      chargers = p.chargers;
-      connectors = p.connectors;
-      vehicles = p.vehicles;
-      queue_places = places;
-    }
+with_queue_places places p = record p { queue_places = places }
 
 -- the balk test is document 01's, and both runs go as under any other places
 pub record AsBefore (p : Plan) : Type 0 where

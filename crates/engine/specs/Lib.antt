@@ -6,5 +6,6 @@ pub mod Discrete
 pub mod Timestep
 pub mod Demand
 pub mod Fleets
+pub mod EvenShares
 pub mod HotDay
 pub mod Code

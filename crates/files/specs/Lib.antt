@@ -9,5 +9,6 @@ pub mod Totals
 pub mod Call
 pub mod Demand
 pub mod Fleets
+pub mod EvenShares
 pub mod HotDay
 pub mod Code

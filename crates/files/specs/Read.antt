@@ -9,8 +9,9 @@ use Rattle.charger.specs.Connector.{named_connectors, codes_of, row_of}
 use Rattle.charger.specs.declared.charger.Charger.{Charger}
 use Rattle.charger.specs.declared.vehicle.Vehicle.{Vehicle}
 use Rattle.engine.specs.Plan.{Plan}
+use Rattle.shares.specs.Watts.{watts_of}
 use Rattle.power.specs.declared.power.Limit.{Limit}
-use Rattle.power.specs.declared.power.Limit.TheVariants.{Unlimited, AtMost}
+use Rattle.power.specs.declared.power.Limit.TheVariants.{Unlimited, AtMost, Shared}
 use Rattle.plan.specs.Bytes.{le_at}
 use Rattle.plan.specs.Search.{each}
 use Rattle.plan.specs.Fields.{f64_at, point_count}
@@ -97,9 +98,10 @@ vehicles_of plan = each (vehicle_in plan) 0 (vehicle_count plan)
 unfoldable pub queue_places_of : List ℕ → List ℕ
 queue_places_of plan = each (λ k. get_or plan (24 + k) 0) 0 64
 
--- byte 12 of the header is 1 with a site limit
+-- byte 12 of the header is 1 with a site limit, and 2 with one that is shared evenly in whole watts (request 10)
 unfoldable pub limit_of : List ℕ → Limit
-limit_of plan = cond (eqb (le_at 1 plan 12) 1) (AtMost (record { 0 = f64_at plan 16 })) Unlimited
+limit_of plan =
+    cond (eqb (le_at 1 plan 12) 1) (AtMost (record { 0 = f64_at plan 16 })) (cond (eqb (le_at 1 plan 12) 2) (Shared (watts_of (f64_at plan 16))) Unlimited)
 
 -- all that the engines read
 abbrev pub read_plan : List ℕ → Plan

@@ -7,6 +7,7 @@ ghost use Rattle.files.specs.Call.{stop_of, answer_of, book_after};
 ghost use Rattle.files.specs.Demand.{ReadsBack, UnitsUsed, FreeKnown, NoFreeFits, OneSpot, OneById, AddUp, CountsOfBook, ClosedStay, ExactWaits, Handled, EventsEnd, StepsEnd};
 ghost use Rattle.files.specs.HotDay.{HotDayOfPlan, HotDayOfRun, BookByRating};
 ghost use Rattle.files.specs.Fleets.{FleetsWithin, FleetsCarried, AsBefore};
+ghost use Rattle.files.specs.EvenShares.{SharedEvenly, LimitIgnored};
 
 use crate::check::{check_plan, read_plan};
 use crate::engines::Engine;
@@ -63,11 +64,13 @@ pub fn run(plan: &[u8], engine: u32, allowance: u32, book: &mut [u8]) -> Result<
     ensures handled { Handled plan.now engine allowance result }
     ensures events { EventsEnd plan.now engine allowance result }
     ensures steps { StepsEnd plan.now engine allowance result }
+    ensures shares { SharedEvenly plan.now engine result }
     ensures hot_day { HotDayOfRun plan.now result }
     ensures rating { BookByRating plan.now engine book.new result }
     ensures fleets { FleetsWithin plan.now engine allowance result }
     ensures carried { FleetsCarried plan.now book.new result }
     ensures no_fleets { AsBefore plan.now result }
+    ensures no_limit { LimitIgnored plan.now engine result }
 {
     let engine = Engine::try_from(engine)?;
     if 10_000_000 < allowance {

@@ -22,6 +22,7 @@ use plan::fields::{f64_at, point_count};
 use plan::ids::with_id;
 use plan::places::{Kind, PlanFile};
 use power::power::Limit;
+use shares::watts::watts;
 
 // Stores the first n points of a profile's block. Bounds on a number of points are asked by clause, as in `fields`.
 fn store_points(points: &mut [Point], b: &[u8; 512], n: usize)
@@ -199,10 +200,11 @@ pub fn read_vehicles(list: &mut VehicleList, plan: &CountedPlan)
 pub fn read_limit(plan: &PlanFile) -> Limit
     ensures { result ≡ limit_of plan.now }
 {
-    if u8_at(plan.bytes, 12) == 1 {
-        return Limit::AtMost(Kw(f64_at(plan.bytes, 16)));
+    match u8_at(plan.bytes, 12) {
+        1 => Limit::AtMost(Kw(f64_at(plan.bytes, 16))),
+        2 => Limit::Shared(watts(f64_at(plan.bytes, 16))),
+        _ => Limit::Unlimited,
     }
-    Limit::Unlimited
 }
 
 // The site of a plan, in the place of what stood there: a site is too large to be handed on by value.

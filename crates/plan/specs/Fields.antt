@@ -22,10 +22,11 @@ zeros b from to = bytes_in b from to 0 0
 abbrev pub letters_ok : List ℕ → Bool
 letters_ok b = slice_index b 0 == 80 && slice_index b 1 == 76 && slice_index b 2 == 65 && slice_index b 3 == 78
 
--- byte 12 is 1 with a site limit, 0 without; the limit is from 0.125 to 65,536 kW, all zero bytes if absent
+-- byte 12 is 1 with a site limit, 2 with one that is shared evenly (request 10), 0 without; the limit is from 0.125 to 65,536 kW,
+-- all zero bytes if absent
 abbrev pub limit_ok : List ℕ → Bool
 limit_ok b =
-    (le_at 1 b 12 == 1) && in_range (le_at 8 b 16) (ratio 1 8) (ratio 65536 1) || le_at 1 b 12 == 0 && zeros b 16 24
+    (le_at 1 b 12 == 1 || le_at 1 b 12 == 2) && in_range (le_at 8 b 16) (ratio 1 8) (ratio 65536 1) || le_at 1 b 12 == 0 && zeros b 16 24
 
 -- the queue places of fleets 1 to 64, one byte each, from 0 to 64 (request 9)
 abbrev pub header_tests : List ℕ → List Bool

@@ -56,8 +56,8 @@ pub fn letters_ok(b: &[u8; 512]) -> bool
 fn limit_ok(b: &[u8; 512]) -> bool
     ensures { result ≡ limit_ok b.now }
 {
-    let present = u8_at(b, 12);
-    (present == 1) & f64_in(b, 16, 0.125, 65536.0) | (present == 0) & zeros(b, 16, 24)
+    let mode = u8_at(b, 12);
+    ((mode == 1) | (mode == 2)) & f64_in(b, 16, 0.125, 65536.0) | (mode == 0) & zeros(b, 16, 24)
 }
 
 pub fn header_ok(b: &[u8; 512]) -> bool

@@ -3,3 +3,4 @@ pub mod Bank
 pub mod Rising
 pub mod Rounds
 pub mod Alone
+pub mod Deal

@@ -2,4 +2,5 @@
 pub mod ChargerState
 pub mod Power
 pub mod Parked
+pub mod EvenShares
 pub mod Code

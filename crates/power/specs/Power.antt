@@ -5,10 +5,12 @@ use Rattle.curve.specs.F64.{◌⊕◌, ◌⊗◌, ◌⊘◌, ratio}
 use Rattle.curve.specs.Curve.{power_at}
 use Rattle.curve.specs.declared.points.Point.{Point}
 use Rattle.curve.specs.declared.units.Kw.{Kw}
+use Rattle.shares.specs.Watts.{watts_of, kilowatts_of}
+use Rattle.shares.specs.Shares.{shares}
 use Rattle.power.specs.declared.charger_state.Status.{Status}
 use Rattle.power.specs.declared.charger_state.ChargerState.{ChargerState}
 use Rattle.power.specs.declared.power.Limit.{Limit}
-use Rattle.power.specs.declared.power.Limit.TheVariants.{Unlimited, AtMost}
+use Rattle.power.specs.declared.power.Limit.TheVariants.{Unlimited, AtMost, Shared}
 use Rattle.power.specs.ChargerState.{is_free, is_charging, draw, with_request, with_cap, progress}
 
 -- a profile goes by its place in the plan, from 0
@@ -36,21 +38,44 @@ abbrev pub total : Float → List ChargerState → Float
 total sum [] = sum
 total sum (s ∷ ss) = total (added sum s) ss
 
--- the limit's share of the sum, if the sum is strictly above the limit
+-- the limit's part of the sum, if the sum is strictly above the limit; one that is shared evenly scales nothing, and is not asked
 unfoldable pub scaling : Limit → Float → Float
 unfolding ratio
 scaling Unlimited sum = ratio 1 1
 scaling (AtMost limit) sum = cond (lt limit.0 sum) (limit.0 ⊘ sum) (ratio 1 1)
+scaling (Shared watts) sum = ratio 1 1
 
 -- the cap that a factor leaves a car: what it draws, scaled, if the factor is below 1, else the rated power
 unfoldable pub cap_of : Float → ChargerState → Kw
 unfolding ratio
 cap_of factor s = cond (lt factor (ratio 1 1)) (record { 0 = draw s ⊗ factor }) s.rated
 
+-- every car's cap by the one factor
+unfoldable pub scaled_caps : Limit → List ChargerState → List Kw
+unfolding scaling added cap_of
+scaled_caps limit ss = map (cap_of (scaling limit (total (ratio 0 1) ss))) ss
+
+-- even shares (request 10): what a car asks for, capped by its charger, in whole watts, if it charges; who does not charge takes no part
+unfoldable pub watts_asked : ChargerState → ℕ
+unfolding watts_of
+watts_asked s = cond (is_charging s.status) (watts_of (draw s)) 0
+
+-- a share goes back to kilowatts
+unfoldable pub cap_of_share : ℕ → Kw
+unfolding kilowatts_of
+cap_of_share w = record { 0 = kilowatts_of w }
+
+-- every car's cap by its share of the limit, which is in whole watts
+unfoldable pub even_caps : ℕ → List ChargerState → List Kw
+unfolding watts_asked cap_of_share shares
+even_caps limit ss = map cap_of_share (shares (map watts_asked ss) limit)
+
 -- the power rule: a cap for each charger, from the limit and the states with their requests
 unfoldable pub caps : Limit → List ChargerState → List Kw
-unfolding scaling added cap_of
-caps limit ss = map (cap_of (scaling limit (total (ratio 0 1) ss))) ss
+unfolding scaled_caps even_caps
+caps Unlimited ss = scaled_caps Unlimited ss
+caps (AtMost limit) ss = scaled_caps (AtMost limit) ss
+caps (Shared limit) ss = even_caps limit ss
 
 -- each car with its cap
 abbrev pub with_caps : List Kw → List ChargerState → List ChargerState

@@ -4,10 +4,11 @@ ghost use Rattle.std.specs.Float.Ieee.{lt, ne};
 ghost use Rattle.charger.specs.Code.Profiles.{curve_in};
 ghost use Rattle.power.specs.ChargerState.{is_free, with_cap, delivered};
 ghost use Rattle.power.specs.Code.Rounds.{spin};
-ghost use Rattle.power.specs.Code.Alone.{round_alone, CapMatchesRequest};
+ghost use Rattle.power.specs.Code.Alone.{cap_alone, round_alone, CapMatchesRequest};
 ghost use Rattle.power.specs.Code.Bank.{Cars, spun};
 
 use crate::charger_state::ChargerState;
+use crate::even_shares::{cap_of_share, watts_asked};
 use crate::power::{Limit, Spun, added, cap_of, scaling};
 use crate::rising::RisingProfiles;
 use crate::thin::{progress, set_power_cap};
@@ -33,14 +34,24 @@ fn by_cap(s: &mut ChargerState, cap: f64)
     *s = s.delivered(cap);
 }
 
-// A round. Where tests tell whether the car draws the rated power or what it asks for, the next round need not wait for the
-// smaller of the two.
+// Its cap, from what it asks for.
+fn cap_alone(s: &ChargerState, limit: Limit) -> Kw
+    ensures { result ≡ cap_alone limit s.now }
+{
+    match limit {
+        Limit::Shared(watts) => cap_of_share(watts_asked(s).min(watts)),
+        _ => cap_of(s, scaling(limit, added(0.0, s.status, s.draw()))),
+    }
+}
+
+// A round. Where one factor gives the caps, and tests tell whether the car draws the rated power or what it asks for, the next round need not
+// wait for the smaller of the two.
 fn round(s: &mut ChargerState, power: Kw, limit: Limit)
     ensures { s.new ≡ round_alone limit power s.old }
 {
     s.requested = power;
     let rated = s.rated;
-    if s.status.is_charging() {
+    if limit.by_factor() & s.status.is_charging() {
         if rated.0 < power.0 {
             if !(scaling(limit, 0.0 + rated.0) < 1.0) {
                 set_power_cap(s, rated);
@@ -63,7 +74,7 @@ fn round(s: &mut ChargerState, power: Kw, limit: Limit)
             }
         }
     }
-    let cap = cap_of(s, scaling(limit, added(0.0, s.status, s.draw())));
+    let cap = cap_alone(s, limit);
     set_power_cap(s, cap);
     progress(s);
 }

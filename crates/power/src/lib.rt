@@ -3,6 +3,7 @@
 
 pub mod alone;
 pub mod charger_state;
+pub mod even_shares;
 pub mod power;
 pub mod rising;
 pub mod rounds;

@@ -3,31 +3,47 @@
 ghost use Rattle.std.specs.Prelude.{◌≡◌, false, map, ◌≤◌, length};
 ghost use Rattle.curve.specs.F64.{ratio};
 ghost use Rattle.charger.specs.Code.Profiles.{curve_in};
-ghost use Rattle.power.specs.ChargerState.{is_finished};
+ghost use Rattle.power.specs.Code.Alone.{by_factor};
 ghost use Rattle.power.specs.Code.Bank.{Cars, advanced, spun};
+ghost use Rattle.power.specs.EvenShares.{SharedEvenly};
 ghost use Rattle.power.specs.Parked.{ParkedDrawNothing};
 ghost use Rattle.power.specs.Power as Spec;
 ghost use Rattle.power.specs.Code.Rounds as Rounds;
 
 use crate::charger_state::{ChargerState, Status};
+use crate::even_shares::advance_evenly;
 use crate::rising::RisingProfiles;
-use crate::thin::{progress, set_power_cap};
+use crate::thin::move_on;
 use curve::units::Kw;
 
-// The most that all chargers may draw together. An `Option` would be no plainer: `None` says less than `Unlimited`.
+// The most that all chargers may draw together: each scaled alike, or whole watts that they share evenly (request 10).
 #[derive(Clone, Copy)]
 pub enum Limit {
     Unlimited,
     AtMost(Kw),
+    Shared(u64),
 }
 
-// The limit's share of the sum, if the sum is strictly above the limit.
+impl Limit {
+    // Whether one factor gives every cap.
+    pub fn by_factor(self) -> bool
+        ensures { result ≡ by_factor self }
+    {
+        match self {
+            Limit::Shared(_) => false,
+            _ => true,
+        }
+    }
+}
+
+// The limit's part of the sum, if the sum is strictly above the limit. One that is shared evenly scales nothing, and is not asked.
 pub fn scaling(limit: Limit, sum: f64) -> f64
     ensures { result ≡ Spec.scaling limit sum }
 {
     match limit {
         Limit::Unlimited => 1.0,
         Limit::AtMost(kw) => { if kw.0 < sum { kw.0 / sum } else { 1.0 } }
+        Limit::Shared(_) => 1.0,
     }
 }
 
@@ -86,21 +102,7 @@ fn request_power(
     sum
 }
 
-// One charger's turn in the second pass: its cap and its progress. Says whether it is finished.
-fn move_on(s: &mut ChargerState, factor: f64) -> bool
-    ensures moved { s.new ≡ advanced factor s.old }
-    ensures finished { result ≡ is_finished s.new.status }
-{
-    if s.status.is_free() {
-        return false;
-    }
-    let cap = cap_of(s, factor);
-    set_power_cap(s, cap);
-    progress(s);
-    s.status.is_finished()
-}
-
-// The second pass: every car's cap and progress. Says whether some charger is finished.
+// The second pass: every car's cap, by the one factor, and progress. Says whether some charger is finished.
 fn advance(bank: &mut [ChargerState], busy: &[usize], factor: f64) -> bool
     requires cars { Cars bank.old busy.now }
     ensures moved { bank.new ≡ map (advanced factor) bank.old }
@@ -108,7 +110,9 @@ fn advance(bank: &mut [ChargerState], busy: &[usize], factor: f64) -> bool
 {
     let mut any = false;
     for &i in busy {
-        any |= move_on(&mut bank[i], factor);
+        let s = &mut bank[i];
+        let cap = cap_of(s, factor);
+        any |= move_on(s, cap);
     }
     any
 }
@@ -125,10 +129,14 @@ fn charge(
     requires cars { Cars bank.old busy.now }
     ensures moved { bank.new ≡ Spec.charge limit (curve_in rising.entry.profiles) bank.old }
     ensures any { result ≡ Rounds.any_finished false bank.new }
+    ensures even { SharedEvenly limit (curve_in rising.entry.profiles) bank.old bank.new }
     ensures parked { ParkedDrawNothing limit (curve_in rising.entry.profiles) bank.old bank.new }
 {
     let sum = request_power(bank, busy, rising, segments);
-    advance(bank, busy, scaling(limit, sum))
+    match limit {
+        Limit::Shared(watts) => advance_evenly(bank, busy, watts),
+        _ => advance(bank, busy, scaling(limit, sum)),
+    }
 }
 
 // How many rounds were charged, and whether a charger is finished.

@@ -1,6 +1,8 @@
-// The thin calls that alter a charger's state by reference: a round's power cap, and its progress.
+// The two thin calls that alter a charger's state by reference, a round's power cap and its progress; and one charger's turn by both.
 ghost use Rattle.std.specs.Prelude.{◌≡◌};
+ghost use Rattle.power.specs.ChargerState.{is_finished};
 ghost use Rattle.power.specs.ChargerState as Spec;
+ghost use Rattle.power.specs.Code.Bank.{moved};
 
 use crate::charger_state::ChargerState;
 use curve::units::Kw;
@@ -15,4 +17,17 @@ pub fn progress(state: &mut ChargerState)
     ensures { state.new ≡ Spec.progress state.old }
 {
     *state = state.progress();
+}
+
+// One charger's turn in the second pass: its cap and its progress. Says whether it is finished.
+pub fn move_on(s: &mut ChargerState, cap: Kw) -> bool
+    ensures moved { s.new ≡ moved cap s.old }
+    ensures finished { result ≡ is_finished s.new.status }
+{
+    if s.status.is_free() {
+        return false;
+    }
+    set_power_cap(s, cap);
+    progress(s);
+    s.status.is_finished()
 }

@@ -9,7 +9,7 @@ use Rattle.plan.specs.Bytes.{bytes, le_at}
 use Rattle.plan.proofs.bytes.Laws.{le_at-drop, length-bytes, sets_append}
 use Rattle.recorded.specs.Replay.{Calls, after_change, after_changes, change, changes, digest_of, mix}
 
--- a number of two bytes, and one of four, is read in two parts
+-- a number of two bytes, of four and of eight is read in two parts
 pub two_bytes : (s : List ℕ) → le_at 1 s 0 + 256 * le_at 1 (drop 1 s) 0 ≡ le_at 2 s 0
 unfolding le_at
 two_bytes s = let e : get_or (drop 1 s) 0 0 ≡ get_or s 1 0 = get_or-drop 1 s 0 0 in omega (arith, e)
@@ -20,6 +20,15 @@ four_bytes s =
     let e : get_or (drop 2 s) 0 0 ≡ get_or s 2 0 = get_or-drop 2 s 0 0 in
     let f : get_or (drop 2 s) 1 0 ≡ get_or s 3 0 = get_or-drop 2 s 1 0 in
     omega (arith, e, f)
+
+pub eight_bytes : (s : List ℕ) → le_at 4 s 0 + 4294967296 * le_at 4 (drop 4 s) 0 ≡ le_at 8 s 0
+unfolding le_at
+eight_bytes s =
+    let e : get_or (drop 4 s) 0 0 ≡ get_or s 4 0 = get_or-drop 4 s 0 0 in
+    let f : get_or (drop 4 s) 1 0 ≡ get_or s 5 0 = get_or-drop 4 s 1 0 in
+    let g : get_or (drop 4 s) 2 0 ≡ get_or s 6 0 = get_or-drop 4 s 2 0 in
+    let h : get_or (drop 4 s) 3 0 ≡ get_or s 7 0 = get_or-drop 4 s 3 0 in
+    omega (arith, e, f, g, h)
 
 -- one change less is left to make
 pub changes_step : (n i place count : ℕ) (r r1 r2 r3 from b new t u : List ℕ) → i < n
@@ -77,7 +86,7 @@ module _ {F R E : Type 0} (called : F → R → Result (Unit {0}) E → F → R 
       rw s (Err e, g, y, c, refl)
 
 -- the bytes of numbers
-length-numbers : (xs : List ℕ) → length (flat_map (bytes 8) xs) ≡ 8 * length xs
+pub length-numbers : (xs : List ℕ) → length (flat_map (bytes 8) xs) ≡ 8 * length xs
 length-numbers [] = refl
 length-numbers (x ∷ xs) = rw (length-append, length-bytes, length-numbers xs) (omega arith)
 

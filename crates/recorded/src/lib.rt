@@ -54,6 +54,16 @@ impl<'a> Record<'a> {
         low + 65536 * self.u16() as u32
     }
 
+    // The little-endian number in the next eight.
+    #[tactic(auto, using(crate::proofs::Laws::eight_bytes))]
+    pub fn u64(&mut self) -> u64
+        ensures number { result ≡ le_at 8 self.old.rest.now 0 }
+        ensures left { self.new.rest.now ≡ drop 8 self.old.rest.now }
+    {
+        let low = u64::from(self.u32());
+        low + 4294967296 * u64::from(self.u32())
+    }
+
     // The next n bytes, as far as the record goes.
     fn bytes(&mut self, n: usize) -> &'a [u8]
         ensures first { result.now ≡ take n self.old.rest.now }

@@ -6,8 +6,10 @@ use oracle::book::LEAST_BOOK;
 use oracle::draft::{Car, Draft, charger, profile};
 use oracle::draw::Draw;
 use oracle::dump::LEAST_DUMP;
+use oracle::share_lists::most_passes;
 use oracle::sides::{OTHER, other_book_late, other_check, other_dump, other_read_book, other_resume, other_run};
 use oracle::{Header, Numbers, Sessions, generate, program};
+use original::shares::kilowatts;
 use std::hint::black_box;
 
 const REPETITIONS: usize = 15;
@@ -71,30 +73,42 @@ const SIDES: [Side; 2] = [
 const MOST: u32 = 10_000_000;
 
 fn main() {
-    let works = named_works();
+    let part = part_of_a_name();
+    let works: Vec<Work> = works().into_iter().filter(|work| work.name.contains(&part)).collect();
+    if works.is_empty() {
+        stop(format!("no row's name has \"{part}\" in it; without a word all rows are timed"));
+    }
     println!(
         "The original and {OTHER}: medians of {REPETITIONS} measurements each, in turn; the ratio is the median of the pairs' ratios. Times are processor time. Buffers are not cleared.\n"
     );
     println!("| work | original | other | other / original |");
     println!("|---|---|---|---|");
     for work in works {
-        let times = measure(&work);
-        let ratios = times[1].iter().zip(&times[0]).map(|(other, original)| other / original).collect();
-        let [original, other] = times.map(median);
-        println!("| {} | {} | {} | {:.2} |", work.name, shown(&work, original), shown(&work, other), median(ratios));
+        println!("{}", row(&work.name, [(&SIDES[0], &work), (&SIDES[1], &work)]));
+    }
+    let pairs: Vec<[Work; 2]> = by_mode().into_iter().filter(|[_, even]| even.name.contains(&part)).collect();
+    if !pairs.is_empty() {
+        println!("\nThe limit scaled and shared evenly, both by {OTHER}:\n");
+        println!("| work | scaled | shared evenly | shared evenly / scaled |");
+        println!("|---|---|---|---|");
+    }
+    for [scaled, even] in &pairs {
+        println!("{}", row(&scaled.name, [(&SIDES[1], scaled), (&SIDES[1], even)]));
     }
 }
 
-/// The works whose names have the word that was given.
-fn named_works() -> Vec<Work> {
+fn part_of_a_name() -> String {
     let mut words = Words::of("bench [PART-OF-A-ROWS-NAME]");
     let part = words.word().unwrap_or_default();
     words.end();
-    let works: Vec<Work> = works().into_iter().filter(|work| work.name.contains(&part)).collect();
-    if works.is_empty() {
-        stop(format!("no row's name has \"{part}\" in it; without a word all rows are timed"));
-    }
-    works
+    part
+}
+
+fn row(name: &str, pair: [(&Side, &Work); 2]) -> String {
+    let times = measure(pair);
+    let ratios = times[1].iter().zip(&times[0]).map(|(second, first)| second / first).collect();
+    let [first, second] = times.map(median).map(|time| shown(pair[0].1, time));
+    format!("| {name} | {first} | {second} | {:.2} |", median(ratios))
 }
 
 fn shown(work: &Work, nanoseconds: f64) -> String {
@@ -144,31 +158,32 @@ impl Lent {
     }
 }
 
-/// Nanoseconds of each repetition, the two sides in alternating order.
-fn measure(work: &Work) -> [Vec<f64>; 2] {
-    let mut lent = Lent::to(work);
-    let mut call = |side: usize| lent.call(&SIDES[side], work);
+/// Nanoseconds of each repetition, the two in alternating order.
+fn measure(pair: [(&Side, &Work); 2]) -> [Vec<f64>; 2] {
+    let mut lent = pair.map(|(_, work)| Lent::to(work));
+    let mut call = |k: usize| lent[k].call(pair[k].0, pair[k].1);
     let answers = [0, 1].map(&mut call);
-    assert_eq!(answers[0], answers[1], "{}", work.name);
-    assert_eq!(answers[0][0], 0, "{} is refused", work.name);
-    let units = match work.per {
+    let name = &pair[0].1.name;
+    assert_eq!(answers[0], answers[1], "{name}");
+    assert_eq!(answers[0][0], 0, "{name} is refused");
+    let units = match pair[0].1.per {
         Per::Round => answers[0][3] as f64,
         Per::Call => 1.0,
     };
-    let calls = [0, 1].map(|side| {
+    let calls = [0, 1].map(|k| {
         let started = thread_time();
-        call(side);
+        call(k);
         (MEASUREMENT / (thread_time() - started)).clamp(1.0, 100_000.0) as u32
     });
     let mut times = [Vec::new(), Vec::new()];
     for repetition in 0..REPETITIONS {
         for turn in 0..2 {
-            let side = (repetition + turn) % 2;
+            let k = (repetition + turn) % 2;
             let started = thread_time();
-            for _ in 0..calls[side] {
-                black_box(call(side));
+            for _ in 0..calls[k] {
+                black_box(call(k));
             }
-            times[side].push((thread_time() - started) / f64::from(calls[side]) / units);
+            times[k].push((thread_time() - started) / f64::from(calls[k]) / units);
         }
     }
     times
@@ -207,6 +222,11 @@ fn works() -> Vec<Work> {
                     works.push(rounds(chargers, points, high, limited));
                 }
             }
+        }
+    }
+    for work in by_mode().into_iter().flatten() {
+        if works.iter().all(|known| known.name != work.name) {
+            works.push(work);
         }
     }
     works.push(parked(1));
@@ -284,6 +304,47 @@ fn rounds(chargers: u32, points: u32, high: bool, limited: bool) -> Work {
         if limited { ", limit binds" } else { "" }
     );
     Work { name, plan: steady(chargers, points, high, limited), call: Call::Run(1, 100_000), per: Per::Round }
+}
+
+/// Plans whose limit is scaled to, each with the same plan whose limit is shared evenly.
+fn by_mode() -> Vec<[Work; 2]> {
+    let mut pairs = Vec::new();
+    for chargers in [1, 4, 32] {
+        for (limit, how) in [(1.5, "limit binds"), (3.0, "requests fit")] {
+            let mut draft = Draft::of(&steady(chargers, 30, false, false)).unwrap();
+            draft.set_limit(limit * f64::from(chargers));
+            pairs.push(both_modes(format!("steps: {chargers} busy, 30 points, low SOC, {how}"), draft, 100_000));
+        }
+    }
+    let mixed = rated(Draft::of(&steady(32, 30, false, false)).unwrap(), (0..32).map(|k| 700 + 40 * k), 38.4);
+    pairs.push(both_modes("steps: 32 busy, 30 points, low SOC, limit binds, mixed requests".into(), mixed, 100_000));
+    pairs.push(both_modes("steps: 32 busy, 1 point, limit binds, most passes".into(), stairs(), 3_000));
+    pairs
+}
+
+fn both_modes(name: String, scaled: Draft, allowance: u32) -> [Work; 2] {
+    let mut even = scaled.clone();
+    even.header[12] = 2;
+    let work = |name, draft: Draft| Work { name, plan: draft.bytes(), call: Call::Run(1, allowance), per: Per::Round };
+    [work(name.clone(), scaled), work(name + ", even shares", even)]
+}
+
+/// Chargers of so many watts each, below what the cars ask for.
+fn rated(mut draft: Draft, watts: impl Iterator<Item = u64>, limit: f64) -> Draft {
+    draft.chargers = (0..).zip(watts).map(|(k, watts)| charger(k, &[], kilowatts(watts), 4_096.0, 4_096.0)).collect();
+    draft.set_limit(limit);
+    draft
+}
+
+/// A car for each request that takes the product the most passes.
+fn stairs() -> Draft {
+    let (requests, limit) = most_passes();
+    let mut draft = Draft::default();
+    draft.profiles.push(profile(1, 1_024.0, &[(0.5, 1_024.0)]));
+    for id in 0..requests.len() as u32 {
+        draft.vehicles.push(Car { id, start: 0.0, target: 1.0, arrival: 0, ..Car::default() }.block());
+    }
+    rated(draft, requests.into_iter(), kilowatts(limit))
 }
 
 /// Cars that are parked from the second round on, under a limit that would bind if they counted.

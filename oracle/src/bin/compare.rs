@@ -7,22 +7,24 @@
 //! `--dumps` compares request 1's calls, dump and continue, at every cut of each case's run by events.
 //! `--books` compares request 5's call on books of drawn lists and of runs, and on damaged ones.
 //! `--late` compares request 7's call, a late booking, at cuts of each case's run by events.
+//! `--shares` compares a program that shares lists of requests, request 10's shares by themselves, on drawn lists.
 //! `--sweep` damages a small plan, or book, or the block of a late car, at every byte in place of drawn cases.
 //! `--trace` names each case on standard error before it runs, for a side that may crash or hang.
 use oracle::arguments::Words;
 use oracle::both::Tally;
 use oracle::draw::Draw;
 use oracle::generate::{self, Case, SHAPES};
+use oracle::share_lists::List;
 use oracle::shrink::shrink;
-use oracle::sides::{OTHER, Side, difference_on_input};
-use oracle::{blocks, books, late, program, words};
+use oracle::sides::{OTHER, Side, difference_on_input, output_of};
+use oracle::{blocks, books, late, program, share_lists, words};
 use std::collections::BTreeMap;
 use std::ops::Range;
-use std::path::PathBuf;
+use std::path::{Path, PathBuf};
 use std::process::ExitCode;
 use std::time::Instant;
 
-const USAGE: &str = "compare [--cases N] [--seed S] [--from INDEX] [--shape NAME] [--dumps | --books | --late | --program PATH] [--sweep] [--count] [--trace]";
+const USAGE: &str = "compare [--cases N] [--seed S] [--from INDEX] [--shape NAME] [--dumps | --books | --late | --shares PATH | --program PATH] [--sweep] [--count] [--trace]";
 
 struct Options {
     cases: u64,
@@ -33,6 +35,7 @@ struct Options {
     dumps: bool,
     books: bool,
     late: bool,
+    shares: Option<PathBuf>,
     sweep: bool,
     count: bool,
     trace: bool,
@@ -48,6 +51,7 @@ fn options() -> Options {
         dumps: false,
         books: false,
         late: false,
+        shares: None,
         sweep: false,
         count: false,
         trace: false,
@@ -63,18 +67,22 @@ fn options() -> Options {
             "--dumps" => options.dumps = true,
             "--books" => options.books = true,
             "--late" => options.late = true,
+            "--shares" => options.shares = Some(words.needed("PATH").into()),
             "--sweep" => options.sweep = true,
             "--count" => options.count = true,
             "--trace" => options.trace = true,
             _ => words.wrong(format!("{word} is unknown")),
         }
     }
-    let ways = [options.dumps, options.books, options.late, options.program.is_some()];
+    let ways = [options.dumps, options.books, options.late, options.shares.is_some(), options.program.is_some()];
     if ways.into_iter().filter(|given| *given).count() > 1 {
-        words.wrong("--dumps, --books, --late and --program are compared one at a time");
+        words.wrong("--dumps, --books, --late, --shares and --program are compared one at a time");
     }
     if options.books && options.shape.is_some() {
         words.wrong("--books has cases of every shape");
+    }
+    if options.shares.is_some() && (options.shape.is_some() || options.sweep) {
+        words.wrong("--shares has drawn lists alone");
     }
     options
 }
@@ -91,6 +99,9 @@ fn main() -> ExitCode {
     let options = options();
     if options.books {
         return compare_books(&options);
+    }
+    if let Some(path) = &options.shares {
+        return compare_shares(&options, path);
     }
     if options.late && options.sweep {
         return sweep_late(&options);
@@ -184,6 +195,34 @@ fn sweep_late(options: &Options) -> ExitCode {
     by_index(options, 0..late::steps(), &mut Tally::default(), differs, of_calls)
 }
 
+/// So many lists fit the program's buffer, whatever their lengths.
+const LISTS_AT_ONCE: u64 = 240;
+
+/// Request 10's shares by themselves, some hundreds of lists at once.
+fn compare_shares(options: &Options, path: &Path) -> ExitCode {
+    let started = Instant::now();
+    println!("the oracle and {}, seed {}", path.display(), options.seed);
+    let mut tally = share_lists::Tally::default();
+    let (mut compared, mut different) = (0, 0);
+    let end = options.from.saturating_add(options.cases);
+    for first in (options.from..end).step_by(LISTS_AT_ONCE as usize) {
+        if options.trace {
+            eprintln!("cases from {first}");
+        }
+        let indices = first..end.min(first.saturating_add(LISTS_AT_ONCE));
+        let lists: Vec<List> = indices.map(|index| List::drawn(&mut Draw::new(options.seed, index))).collect();
+        lists.iter().for_each(|list| tally.add(list));
+        compared += lists.len() as u64;
+        let differences = share_lists::differences(&lists, &output_of(path, &share_lists::record(&lists)));
+        different += differences.len() as u64;
+        if let Some((k, what)) = differences.first().filter(|_| !options.count) {
+            println!("DIFFERENCE in case {}: {what}", first + *k as u64);
+            return ExitCode::FAILURE;
+        }
+    }
+    summed_up(compared, different, started, &tally.to_string())
+}
+
 /// Compares by index alone, and says at the end what the tally has.
 fn by_index<T>(
     options: &Options,
@@ -232,7 +271,7 @@ fn report(side: &Side, index: u64, case: Case, what: &str) {
 }
 
 /// Inputs that end within the first five bytes, and right after them.
-fn short_inputs(path: &PathBuf) -> Option<String> {
+fn short_inputs(path: &Path) -> Option<String> {
     let byte = [0, 1, 2, 255];
     let mut inputs: Vec<Vec<u8>> = vec![Vec::new(), vec![0, 255, 255, 255]];
     for len in 1..=6 {

@@ -72,6 +72,7 @@ fn inputs(seed: u64) -> Vec<Vec<u8>> {
     }
     inputs.extend(one_plan_many_ways(&mut draw));
     inputs.extend(fleets());
+    inputs.extend(even_shares(&mut draw));
     inputs
 }
 
@@ -127,6 +128,25 @@ fn fleets() -> Vec<Vec<u8>> {
         let mut wrong = lane.clone();
         wrong.block_mut(block)[at] = byte;
         inputs.push(program::input(0, MOST, &wrong.bytes()));
+    }
+    inputs
+}
+
+/// Cars that share a limit evenly: many of them by steps, a few by both engines, and the limit's fields out of limits.
+fn even_shares(draw: &mut Draw) -> Vec<Vec<u8>> {
+    let many = |input: &[u8]| input[0] == 1 && input[11] >= 16 && program::output(input).1[3] > 20;
+    let mut inputs = drawn(draw, "even shares", LARGE, many);
+    // 1.001 is below 1,001 W.
+    let limits = [0.125, 0.3, 1.0, 1.001, 1.001_f64.next_up(), 1.499, 1.5, 65_536.0];
+    for limit in limits {
+        let plan = bay::shared(limit).bytes();
+        inputs
+            .extend([(0, MOST), (1, 3), (1, MOST)].map(|(engine, allowance)| program::input(engine, allowance, &plan)));
+    }
+    for (mode, limit) in [(3, 1.0), (255, 1.0), (2, 0.0), (2, 0.125_f64.next_down()), (2, 65_536_f64.next_up())] {
+        let mut wrong = bay::shared(limit);
+        wrong.header[12] = mode;
+        inputs.push(program::input(1, MOST, &wrong.bytes()));
     }
     inputs
 }

@@ -26,7 +26,7 @@ const VEHICLE_FLOATS: &[(usize, f64, f64)] = &[(16, 0.0, 1.0), (24, 0.0, 1.0), (
 fn float_field(draw: &mut Draw, draft: &Draft, k: usize) -> Option<(usize, f64, f64)> {
     let profiles = draft.profiles.len();
     if k == 0 {
-        return (draft.header[12] == 1).then(|| HEADER_FLOATS[0]);
+        return (draft.header[12] != 0).then(|| HEADER_FLOATS[0]);
     }
     if k > profiles {
         let fields = if k <= profiles + draft.chargers.len() { CHARGER_FLOATS } else { VEHICLE_FLOATS };
@@ -41,6 +41,9 @@ fn float_field(draw: &mut Draw, draft: &Draft, k: usize) -> Option<(usize, f64, 
 /// Fields at their limits and right beside them, inside and outside.
 pub fn edges(draw: &mut Draw) -> Case {
     let mut draft = draft(draw, Style { chargers: [1, 2], limit: true, ..FEW });
+    if draw.one_in(3) {
+        draft.header[12] = draw.pick(&[2, 2, 2, 3]);
+    }
     for _ in 0..draw.among(1, 4) {
         let k = draw.below(draft.block_count() as u64) as usize;
         if let Some((at, low, high)) = float_field(draw, &draft, k) {
@@ -178,14 +181,17 @@ fn field_fault(draw: &mut Draw, draft: &mut Draft) {
 
 fn header_fault(draw: &mut Draw, block: &mut [u8]) {
     match draw.below(5) {
-        0 => block[12] = draw.among(2, 255) as u8,
+        0 => {
+            block[12] = draw.pick(&[3, 3, 4, 130, 255]);
+            put_f64(block, 16, draw.pick(&[0.0, 0.125, 50.0]));
+        }
         1 => {
             block[12] = 0;
             block[16 + draw.below(8) as usize] = 1;
         }
         2 => {
-            block[12] = 1;
-            block[16..24].fill(0);
+            block[12] = draw.pick(&[1, 2]);
+            put_f64(block, 16, draw.pick(&[0.0, 0.0, 0.125_f64.next_down(), 65_536_f64.next_up(), -50.0]));
         }
         3 => block[draw.pick(&[24, 25, 50, 86, 87])] = draw.pick(&[65, 66, 128, 255]),
         _ => block[draw.pick(&[10, 11, 13, 15, 88, 89, 300, 507])] = draw.among(1, 255) as u8,

@@ -1,5 +1,5 @@
 //! Plans that are good, or refused by 12 at most, in several styles.
-use crate::blocks::{Block, hash, put, put_f64};
+use crate::blocks::{Block, f64_at, hash, put, put_f64};
 use crate::draft::{Car, Draft, charger, points, profile};
 use crate::draw::Draw;
 use crate::plan::{CAPS, FLEET, MOST_FLEETS};
@@ -147,13 +147,18 @@ pub fn draft(draw: &mut Draw, style: Style) -> Draft {
         let curve = points(&draft.profiles[place]);
         draft.vehicles.push(car(draw, style, id, profile_ids[place], &curve).block());
     }
-    // Drawn apart, so that a plan without fleets does not go by them.
+    // Drawn apart, so that a plan without fleets and even shares does not go by them.
     let mut apart = Draw::new(hash(&draft.bytes()), 0);
     match style.fleets {
         Fleets::Most => set_fleets(&mut apart, &mut draft),
         Fleets::Few if apart.one_in(40) => set_fleets(&mut apart, &mut draft),
         Fleets::Few if apart.one_in(12) => any_places(&mut apart, &mut draft),
         Fleets::Few => {}
+    }
+    if apart.one_in(40) {
+        let limited = draft.header[12] != 0;
+        let limit = if limited { f64_at(&draft.header, 16) } else { site_limit(&mut apart) };
+        draft.set_even_shares(limit);
     }
     draft
 }

@@ -18,6 +18,9 @@ use Rattle.files.specs.Call.{stop_of, totals, if_fine, answer_of, book_of, book_
 use Rattle.files.specs.Demand.{OfRun, ReadsBack, UnitsUsed, FreeKnown, NoFreeFits, OneSpot, OneById, AddUp, CountsOfBook, ClosedStay, ExactWaits, Handled, EventsEnd, StepsEnd}
 use Rattle.files.specs.HotDay.{HotDayOfRun, BookByRating}
 use Rattle.files.specs.Fleets.{FleetsWithin, FleetsCarried, AsBefore}
+use Rattle.files.specs.EvenShares.{SharedEvenly, LimitIgnored}
+use Rattle.engine.proofs.site.NoLimit.{no_limit}
+use Rattle.files.proofs.call.EvenShares.{evenly}
 use Rattle.files.specs.BookSession.{book_sessions}
 use Rattle.plan.specs.declared.answer.Totals.{Totals}
 use Rattle.plan.specs.declared.answer.Refusal.{Refusal}
@@ -114,11 +117,13 @@ pub record Promises (plan : List ℕ) (engine n : ℕ) (book : List ℕ) (r : Re
   pub handled : Handled plan engine n r
   pub events : EventsEnd plan engine n r
   pub steps : StepsEnd plan engine n r
+  pub shares : SharedEvenly plan engine r
   pub hot_day : HotDayOfRun plan r
   pub rating : BookByRating plan engine book r
   pub fleets : FleetsWithin plan engine n r
   pub carried : FleetsCarried plan book r
   pub no_fleets : AsBefore plan r
+  pub no_limit : LimitIgnored plan engine r
 
 -- the bytes of the book
 pub book_bytes_lem : (plan : List ℕ) (engine n : ℕ) (old book : List ℕ) (r : Result Totals Refusal) → book ≡ book_after plan engine n r old
@@ -176,6 +181,12 @@ module _ (plan : List ℕ) (engine n : ℕ) (r : Result Totals Refusal) (runs : 
 
   no_fleet : AsBefore plan r
   no_fleet = of_map (λ t k. no_fleets plan) r runs
+
+  shared : SharedEvenly plan engine r
+  shared = of_map (λ t k z. evenly plan) r runs
+
+  ignored : LimitIgnored plan engine r
+  ignored = of_map (λ t k z. no_limit (read_plan plan)) r runs
 
   -- ---- and those of the book
 
@@ -241,9 +252,11 @@ module _ (plan : List ℕ) (engine n : ℕ) (r : Result Totals Refusal) (runs : 
           handled = handled;
           events = events_end;
           steps = steps_end;
+          shares = shared;
           hot_day = hot_day;
           rating = book_rated;
           fleets = within;
           carried = carried;
           no_fleets = no_fleet;
+          no_limit = ignored;
         }

@@ -1,29 +1,27 @@
 -- Every float that is read of a plan whose blocks pass their check is within its limits. Assumes nothing.
 use mathlib.Core.Path.{◌≡◌, refl}
-use mathlib.Core.Bool.{Bool, true, false, cond, ◌&&◌, ◌||◌, false≢true}
+use mathlib.Core.Bool.{Bool, true, false, ◌&&◌, ◌||◌, false≢true}
 use mathlib.Core.List.{List}
-use mathlib.Core.Logic.{inl, inr}
+use mathlib.Core.Logic.{◌⊎◌, inl, inr}
 use Prim.Native.Nat.{ℕ, ◌+◌, ◌*◌, ◌<◌}
 use native.Mathlib.Nat.{zero-add}
 use native.Mathlib.Omega.{arith}
-use borrow.Author.Tests.{lt-ltb, eqb-true}
+use borrow.Author.Tests.{lt-ltb}
 use lib.Dec.{eqb}
 use lib.Ieee.{binary64, of_bits, eq}
 use Rattle.curve.specs.F64.{ratio, in_range}
 use Rattle.curve.specs.Curve.{origin}
 use Rattle.curve.specs.Limits.{Within, Soc, Power, Battery, Held}
-use Rattle.curve.specs.declared.units.Kw.{Kw}
 use Rattle.curve.proofs.float.Limits.{from_bits, each_held}
 use Rattle.charger.specs.Leads.{NoCap, CapWithin, ChargerWithin}
 use Rattle.charger.specs.Lists.{All, none, also}
 use Rattle.charger.specs.declared.vehicle.Vehicle.{Vehicle}
-use Rattle.power.specs.declared.power.Limit.TheVariants.{Unlimited, AtMost}
 use Rattle.plan.specs.Bytes.{le_at}
 use Rattle.plan.specs.Blocks.{block}
 use Rattle.plan.specs.Fields.{f64_at, cap_ok, point_count, point_ok, zeros}
 use Rattle.plan.specs.Places.{profile_count, charger_count, vehicle_count, profile_block, charger_block, vehicle_block}
 use Rattle.plan.specs.Plan.{check_blocks}
-use Rattle.files.specs.Read.{point_at, points_of, battery_of, charger_of, chargers_of, vehicle_of, vehicle_in, vehicles_of, limit_of}
+use Rattle.files.specs.Read.{point_at, points_of, battery_of, charger_of, chargers_of, vehicle_of, vehicle_in, vehicles_of}
 use Rattle.charger.proofs.Lists.{and_true}
 use Rattle.plan.proofs.fields.Laws.{zeros_hold}
 use Rattle.plan.proofs.SearchLaws.{every_at, length-each, each_at, all_each}
@@ -50,13 +48,10 @@ cap_within b at h = go (zeros b at (at + 8)) refl
     go false e = inr (from_bits (le_at 8 b at) (ratio 1 1) (ratio 4096 1) (rw e at h))
 
 -- the test of a site limit, where the limit is there
-present : (n : ℕ) (r z : Bool) → n ≡ 1 → (eqb n 1 && r || eqb n 0 && z) ≡ true → r ≡ true
+present : (n : ℕ) (r z : Bool) → (n ≡ 1) ⊎ (n ≡ 2) → ((eqb n 1 || eqb n 2) && r || eqb n 0 && z) ≡ true → r ≡ true
 present n true z e h = refl
-present n false z e h = absurd (false≢true (rw e at h))
-
-at_most : (t : Bool) (x y : Kw) → cond t (AtMost x) Unlimited ≡ AtMost y → (t ≡ true) × (x ≡ y)
-at_most true x y e = (refl, cc)
-at_most false x y e = absurd (let z : ◌≡◌ {A = ℕ} 0 1 = cc in omega arith)
+present n false z (inl e) h = absurd (false≢true (rw e at h))
+present n false z (inr e) h = absurd (false≢true (rw e at h))
 
 module _ (plan : List ℕ) (fine : check_blocks plan ≡ Ok tt) where
   pub vehicles-within : All VehicleWithin (vehicles_of plan)
@@ -106,13 +101,12 @@ module _ (plan : List ℕ) (fine : check_blocks plan ≡ Ok tt) where
       let inside : i < point_count b = rw (length-each (point_at b) 0 (point_count b)) at l in
       rw (each_at (point_at b) 0 (point_count b) i origin inside, zero-add) (point-within k i h inside))
 
-  pub limit_within : (x : Kw) → limit_of plan ≡ AtMost x → Within (ratio 1 8) (ratio 65536 1) x.0
-  unfolding limit_of
-  limit_within x e =
+  -- that of bytes 16 to 23, where byte 12 says that there is one
+  pub limit_within : (le_at 1 plan 12 ≡ 1) ⊎ (le_at 1 plan 12 ≡ 2) → Within (ratio 1 8) (ratio 65536 1) (f64_at plan 16)
+  limit_within mode =
       let b = block plan 0 in
       let flag : le_at 1 b 12 ≡ le_at 1 plan 12 = block_read 1 plan 0 12 (omega arith) in
       let bits : le_at 8 b 16 ≡ le_at 8 plan 16 = block_read 8 plan 0 16 (omega arith) in
-      let there = at_most (eqb (le_at 1 plan 12) 1) _ x e in
       let test : in_range (le_at 8 b 16) (ratio 1 8) (ratio 65536 1) ≡ true =
-      present (le_at 1 b 12) (in_range (le_at 8 b 16) (ratio 1 8) (ratio 65536 1)) (zeros b 16 24) (omega (arith, eqb-true (le_at 1 plan 12) 1 there.0)) (header_tests_lem plan fine 1) in
-      rw (← there.1, ← bits) (from_bits (le_at 8 b 16) (ratio 1 8) (ratio 65536 1) test)
+      present (le_at 1 b 12) (in_range (le_at 8 b 16) (ratio 1 8) (ratio 65536 1)) (zeros b 16 24) (rw flag mode) (header_tests_lem plan fine 1) in
+      rw (← bits) (from_bits (le_at 8 b 16) (ratio 1 8) (ratio 65536 1) test)

@@ -5,7 +5,7 @@ use mathlib.Core.Bool.{Bool, true, false, true≢false, not, cond, ◌&&◌}
 use mathlib.Core.List.{List, [], ◌∷◌, ◌++◌, map, map-append}
 use Prim.Native.Nat.{ℕ, zero, suc, ◌+◌, ◌-◌, ◌<◌}
 use native.Mathlib.Omega.{arith}
-use lib.ListN.{length, get_or, set, length-append, length-map}
+use lib.ListN.{length, get_or, set, length-append, length-map, get_or-map}
 use lib.Seq.{set_at, get_or-append_seam}
 use lib.Ieee.{Float, lt, le, ne}
 use Rattle.curve.specs.F64.{◌⊕◌, ◌⊖◌, ◌⊗◌, ratio, least}
@@ -16,12 +16,16 @@ use Rattle.power.specs.declared.charger_state.Status.{Status}
 use Rattle.power.specs.declared.charger_state.Status.TheVariants.{Free, Charging, Idle, Finished}
 use Rattle.power.specs.declared.charger_state.ChargerState.{ChargerState}
 use Rattle.power.specs.declared.power.Limit.{Limit}
+use Rattle.power.specs.declared.power.Limit.TheVariants.{Unlimited, AtMost, Shared}
 use Rattle.power.specs.declared.power.Spun as D
 use Rattle.power.specs.ChargerState.{is_free, is_finished, is_charging, with_request, with_cap, draw, delivered, after_charging, after_idling, progress_by, progress, all_free}
-use Rattle.power.specs.Power.{active, request, added, total, scaling, cap_of, caps, with_caps, allocate, charge}
+use Rattle.power.specs.Power.{active, request, added, total, scaling, cap_of, scaled_caps, watts_asked, cap_of_share, even_caps, caps, with_caps, allocate, charge}
 use Rattle.power.specs.Code.Rounds.{or_finished, any_finished, Spun, spin}
-use Rattle.power.specs.Code.Alone.{cap_alone, round_alone, CapMatchesRequest}
+use Rattle.power.specs.Code.Alone.{by_factor, scaled_alone, share_alone, cap_alone, round_alone, CapMatchesRequest}
 use Rattle.power.specs.Code.Bank.{Gaps, Cars, spun}
+use Rattle.shares.specs.Shares.{shares}
+use Rattle.shares.proofs.even.Laws.{same_count}
+use Rattle.power.proofs.even_shares.AmongFree.{only_share}
 use Rattle.power.proofs.charger_state.Vacant.{and_left, and_right, free_stays, free_map, free_capped}
 use Rattle.power.proofs.power.SameCars.{same_progress}
 use Rattle.power.proofs.power.Free.{total-append, total_free, any_append, any_free, all_free-append, spin_none}
@@ -36,17 +40,34 @@ map_at f none [] behind s = refl
 map_at f none (x ∷ before) behind s = map_at f none before behind s
 
 pub caps-length : (limit : Limit) (ss : List ChargerState) → length (caps limit ss) ≡ length ss
-unfolding caps
-caps-length limit ss = length-map ss _
+unfolding caps scaled_caps even_caps
+caps-length Unlimited ss = length-map ss _
+caps-length (AtMost kw) ss = length-map ss _
+caps-length (Shared watts) ss = length-map (shares (map watts_asked ss) watts) cap_of_share ∙ same_count (map watts_asked ss) watts ∙ length-map ss watts_asked
 
-pub caps_alone : (limit : Limit) (none : Kw) (before behind : List ChargerState) → all_free before ≡ true → all_free behind ≡ true → (s : ChargerState)
-    → get_or (caps limit (before ++ (s ∷ behind))) (length before) none ≡ cap_alone limit s
-unfolding caps cap_alone added
-caps_alone limit none before behind f g s =
-    let sum : total (ratio 0 1) (before ++ (s ∷ behind)) ≡ added (ratio 0 1) s =
-    rw (total-append (ratio 0 1) before (s ∷ behind), total_free (ratio 0 1) before f) (total_free (added (ratio 0 1) s) behind g)
-    in
-    rw sum (map_at (cap_of (scaling limit (added (ratio 0 1) s))) none before behind s)
+module _ (before behind : List ChargerState) (free-before : all_free before ≡ true) (free-behind : all_free behind ≡ true) (s : ChargerState) where
+  abbrev all : List ChargerState
+  all = before ++ (s ∷ behind)
+
+  scaled_alone_lem : (limit : Limit) → get_or (scaled_caps limit all) (length before) (cap_of_share 0) ≡ scaled_alone limit s
+  unfolding scaled_caps scaled_alone added
+  scaled_alone_lem limit =
+      let sum : total (ratio 0 1) all ≡ added (ratio 0 1) s =
+      rw (total-append (ratio 0 1) before (s ∷ behind), total_free (ratio 0 1) before free-before) (total_free (added (ratio 0 1) s) behind free-behind)
+      in
+      rw sum (map_at (cap_of (scaling limit (added (ratio 0 1) s))) (cap_of_share 0) before behind s)
+
+  share_alone_lem : (watts : ℕ) → is_free s.status ≡ false → get_or (even_caps watts all) (length before) (cap_of_share 0) ≡ share_alone watts s
+  unfolding even_caps share_alone
+  share_alone_lem watts h =
+      get_or-map cap_of_share (shares (map watts_asked all) watts) (length before) 0
+      ∙ ap cap_of_share (only_share before behind free-before free-behind s h watts)
+
+  pub caps_alone : (limit : Limit) → is_free s.status ≡ false → get_or (caps limit all) (length before) (cap_of_share 0) ≡ cap_alone limit s
+  unfolding caps cap_alone
+  caps_alone Unlimited h = scaled_alone_lem Unlimited
+  caps_alone (AtMost kw) h = scaled_alone_lem (AtMost kw)
+  caps_alone (Shared watts) h = share_alone_lem watts h
 
 -- ---- its round
 
@@ -76,8 +97,8 @@ module _ (limit : Limit) (curve : ℕ → List Point) where
         let all = before ++ (asked ∷ behind) in
         let requested : map (active (request curve)) (before ++ (s ∷ behind)) ≡ all = map_among (active (request curve)) (still_active (request curve)) s asked (rw h) in
         let capped : with_caps (caps limit all) all ≡ before ++ (with_cap (cap_alone limit asked) asked ∷ behind) =
-        with_caps_alone (caps limit all) s.cap before behind free-before free-behind asked h (caps-length limit all)
-        ∙ rw (caps_alone limit s.cap before behind free-before free-behind asked)
+        with_caps_alone (caps limit all) (cap_of_share 0) before behind free-before free-behind asked h (caps-length limit all)
+        ∙ rw (caps_alone before behind free-before free-behind asked limit h)
         in
         rw (requested, capped) (map_among progress (λ x e. free_stays x.status x e) _ _ refl)
 
@@ -203,31 +224,38 @@ least_second a b h = rw h (go (ne a a))
     go true = refl
     go false = refl
 
--- its cap, where it is known what it draws
+-- its cap, where one factor gives it
+pub alone_scaled : (limit : Limit) (s : ChargerState) → by_factor limit ≡ true → cap_alone limit s ≡ scaled_alone limit s
+unfolding cap_alone
+alone_scaled Unlimited s h = refl
+alone_scaled (AtMost kw) s h = refl
+alone_scaled (Shared watts) s h = cc
+
+-- and where it is known what it draws
 abbrev factor : Limit → Float → Float
 factor limit drawn = scaling limit (ratio 0 1 ⊕ drawn)
 
 module _ (limit : Limit) (s : ChargerState) (charging : is_charging s.status ≡ true) where
-  cap_charging : cap_alone limit s ≡ cap_of (factor limit (draw s)) s
-  unfolding cap_alone added
+  cap_charging : scaled_alone limit s ≡ cap_of (factor limit (draw s)) s
+  unfolding scaled_alone added
   cap_charging = rw charging
 
   module _ (drawn : Float) (draws : draw s ≡ drawn) where
-    cap_scaled : lt (factor limit drawn) (ratio 1 1) ≡ true → cap_alone limit s ≡ record { 0 = drawn ⊗ factor limit drawn }
+    cap_scaled : lt (factor limit drawn) (ratio 1 1) ≡ true → scaled_alone limit s ≡ record { 0 = drawn ⊗ factor limit drawn }
     unfolding cap_of
     cap_scaled f = cap_charging ∙ rw (draws, f)
 
-    cap_rated : lt (factor limit drawn) (ratio 1 1) ≡ false → cap_alone limit s ≡ s.rated
+    cap_rated : lt (factor limit drawn) (ratio 1 1) ≡ false → scaled_alone limit s ≡ s.rated
     unfolding cap_of
     cap_rated f = cap_charging ∙ rw (draws, f)
 
-module _ (limit : Limit) (power : Kw) (s : ChargerState) (charging : is_charging s.status ≡ true) where
+module _ (limit : Limit) (power : Kw) (s : ChargerState) (factored : by_factor limit ≡ true) (charging : is_charging s.status ≡ true) where
   abbrev asked : ChargerState
   asked = with_request power s
 
-  round_by : (cap : Kw) (drawn : Float) → cap_alone limit asked ≡ cap → least power.0 cap.0 ≡ drawn → delivered drawn (with_cap cap asked) ≡ round_alone limit power s
+  round_by : (cap : Kw) (drawn : Float) → scaled_alone limit asked ≡ cap → least power.0 cap.0 ≡ drawn → delivered drawn (with_cap cap asked) ≡ round_alone limit power s
   unfolding after_charging
-  round_by cap drawn e d = sym (rw e (progress-charging s.status (with_cap cap asked) charging ∙ rw d))
+  round_by cap drawn e d = sym (rw (alone_scaled limit asked factored, e) (progress-charging s.status (with_cap cap asked) charging ∙ rw d))
 
   module _ (drawn : Float) (draws : draw asked ≡ drawn) where
     abbrev scaled : Float
@@ -247,19 +275,46 @@ still_parked : (b : Bool) {P : Type 0} → is_charging (cond b Finished Idle) �
 still_parked true h = absurd (true≢false (sym h))
 still_parked false h = absurd (true≢false (sym h))
 
+same_scaled : (limit : Limit) (s t : ChargerState) → is_charging s.status ≡ true → is_charging t.status ≡ true → draw t ≡ draw s → t.rated ≡ s.rated
+    → scaled_alone limit s ≡ scaled_alone limit t
+unfolding cap_of
+same_scaled limit s t a b d r = cap_charging limit s a ∙ (rw (← d, ← r)) ∙ sym (cap_charging limit t b)
+
+same_share : (watts : ℕ) (s t : ChargerState) → is_charging s.status ≡ true → is_charging t.status ≡ true → draw t ≡ draw s → share_alone watts s ≡ share_alone watts t
+unfolding share_alone watts_asked
+same_share watts s t a b d = rw (a, b, d)
+
+-- the cap goes by what the car draws, if it charges, and by the rated power
+cap_drawn : (limit : Limit) (s t : ChargerState) → is_charging s.status ≡ true → is_charging t.status ≡ true → draw t ≡ draw s → t.rated ≡ s.rated
+    → cap_alone limit s ≡ cap_alone limit t
+unfolding cap_alone
+cap_drawn Unlimited s t a b d r = same_scaled Unlimited s t a b d r
+cap_drawn (AtMost kw) s t a b d r = same_scaled (AtMost kw) s t a b d r
+cap_drawn (Shared watts) s t a b d r = same_share watts s t a b d
+
+-- and not by the cap before
+cap_anew : (limit : Limit) (c : Kw) (s : ChargerState) → cap_alone limit (with_cap c s) ≡ cap_alone limit s
+unfolding cap_alone scaled_alone share_alone added cap_of watts_asked
+cap_anew Unlimited c s = refl
+cap_anew (AtMost kw) c s = refl
+cap_anew (Shared watts) c s = refl
+
 -- a round leaves the cap that its request leads to, if the car still charges
 pub cap_matches : (limit : Limit) (power : Kw) (s : ChargerState) → CapMatchesRequest limit (round_alone limit power s)
-unfolding cap_alone added cap_of after_charging after_idling
+unfolding after_charging after_idling
 cap_matches limit power s = go s.status refl
   where
+    asked_for : ChargerState
+    asked_for = with_request power s
+
     next : ChargerState
-    next = with_cap (cap_alone limit (with_request power s)) (with_request power s)
+    next = with_cap (cap_alone limit asked_for) asked_for
 
     go : (status : Status) → s.status ≡ status → CapMatchesRequest limit (progress_by status next)
-    go Free e h = refl
-    go Charging e h = cap_charging limit (with_request power s) (rw e) ∙ sym (cap_charging limit (after_charging next) h)
+    go Free e h = sym (cap_anew limit (cap_alone limit asked_for) asked_for)
+    go Charging e h = cap_drawn limit asked_for (after_charging next) (rw e) h refl refl
     go Idle e h = still_parked (le (next.idle.0 ⊖ ratio 1 1) (ratio 0 1)) h
-    go Finished e h = refl
+    go Finished e h = sym (cap_anew limit (cap_alone limit asked_for) asked_for)
 
 -- and the same request again changes neither the request nor the cap
 pub same_again : (limit : Limit) (power : Kw) (s : ChargerState) → s.cap ≡ cap_alone limit s → power.0 ≡ s.requested.0 → progress s ≡ round_alone limit power s

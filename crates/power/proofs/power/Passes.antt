@@ -1,5 +1,5 @@
 -- A pass over the places of the cars is a pass over all chargers: it leaves the free ones between them as they are.
-use mathlib.Core.Path.{◌≡◌, refl, sym}
+use mathlib.Core.Path.{◌≡◌, refl, sym, ◌∙◌}
 use mathlib.Core.Logic.{inl, inr}
 use mathlib.Core.Bool.{Bool, true, false, cond, ◌||◌}
 use mathlib.Core.List.{List, [], ◌∷◌, ◌++◌, map}
@@ -12,12 +12,15 @@ use lib.Ieee.{Float}
 use Rattle.std.proofs.lemmas.List.{get_or_default}
 use Rattle.curve.specs.F64.{ratio}
 use Rattle.curve.specs.declared.points.Point.{Point}
+use Rattle.curve.specs.declared.units.Kw.{Kw}
 use Rattle.power.specs.declared.charger_state.ChargerState.{ChargerState}
 use Rattle.power.specs.declared.power.Limit.{Limit}
 use Rattle.power.specs.ChargerState.{is_free, is_finished, draw, empty, progress}
-use Rattle.power.specs.Power.{active, request, added, total, scaling, cap_of, caps, with_caps, allocate, charge}
+use Rattle.power.specs.declared.power.Limit.TheVariants.{Unlimited, AtMost, Shared}
+use Rattle.power.specs.Power.{active, request, added, total, scaling, cap_of, scaled_caps, even_caps, caps, with_caps, allocate, charge}
 use Rattle.power.specs.Code.Rounds.{or_finished, any_finished}
-use Rattle.power.specs.Code.Bank.{Gaps, Cars, advanced}
+use Rattle.power.specs.Code.Alone.{by_factor}
+use Rattle.power.specs.Code.Bank.{Gaps, Cars, moved, advanced}
 use Rattle.power.proofs.charger_state.Vacant.{free_stays, free_unfinished, free_adds}
 
 -- the places listed are within the bank
@@ -31,6 +34,9 @@ gaps_within i (s ∷ ss) ps (suc k) (inr w) h =
 
 pub cars_within : (ss : List ChargerState) (ps : List ℕ) (k : ℕ) → Cars ss ps → k < length ps → get_or ps k 0 < length ss
 cars_within ss ps k cars h = omega (arith, gaps_within 0 ss ps k cars.gaps h)
+
+pub one_more : (before : List ChargerState) (s : ChargerState) (i : ℕ) → length before ≡ i → length (before ++ (s ∷ [])) ≡ i + 1
+one_more before s i e = rw length-append (omega arith)
 
 module _ (f : ChargerState → ChargerState) where
   -- the bank after the turns of the chargers at the places ps
@@ -68,16 +74,14 @@ module _ (f : ChargerState → ChargerState) where
     pub passing_done : {k : ℕ} {a' : A} {ss' : List ChargerState} → k ≡ length ps → Passing add ps a ss k a' ss' → (ss' ≡ passed ps ss) × (a' ≡ tallied add ps a ss)
     passing_done {k} h p = (rw (h, drop-length ps) at p.state, rw (h, drop-length ps) at p.tally)
 
+  -- the turn of one
+  pub turned : (before : List ChargerState) (s : ChargerState) (ss : List ChargerState) (i : ℕ) → length before ≡ i
+      → set (before ++ (s ∷ ss)) i (f (get_or (before ++ (s ∷ ss)) i empty)) ≡ (before ++ (f s ∷ [])) ++ ss
+  turned before s ss i e =
+      let here : get_or (before ++ (s ∷ ss)) i empty ≡ s = rw e at (get_or-append_seam before s ss empty) in
+      rw (here, set_at before s ss (f s) i e) (sym (append_snoc before (f s) ss))
+
   module _ (still : (s : ChargerState) → is_free s.status ≡ true → f s ≡ s) where
-    turned : (before : List ChargerState) (s : ChargerState) (ss : List ChargerState) (i : ℕ) → length before ≡ i
-        → set (before ++ (s ∷ ss)) i (f (get_or (before ++ (s ∷ ss)) i empty)) ≡ (before ++ (f s ∷ [])) ++ ss
-    turned before s ss i e =
-        let here : get_or (before ++ (s ∷ ss)) i empty ≡ s = rw e at (get_or-append_seam before s ss empty) in
-        rw (here, set_at before s ss (f s) i e) (sym (append_snoc before (f s) ss))
-
-    one_more : (before : List ChargerState) (s : ChargerState) (i : ℕ) → length before ≡ i → length (before ++ (s ∷ [])) ≡ i + 1
-    one_more before s i e = rw length-append (omega arith)
-
     pass_behind : (before ss : List ChargerState) (i : ℕ) (ps : List ℕ) → length before ≡ i → Gaps i ss ps → passed ps (before ++ ss) ≡ before ++ map f ss
     pass_behind before [] i ps e g = rw g
     pass_behind before (s ∷ ss) i ps e (inl w) =
@@ -106,8 +110,11 @@ module _ (f : ChargerState → ChargerState) where
 pub still_active : (change : ChargerState → ChargerState) (s : ChargerState) → is_free s.status ≡ true → active change s ≡ s
 still_active change s h = rw h
 
-pub still-advanced : (factor : Float) (s : ChargerState) → is_free s.status ≡ true → advanced factor s ≡ s
-still-advanced factor s h = rw h (free_stays s.status s h)
+pub still_moved : (cap : Kw) (s : ChargerState) → is_free s.status ≡ true → moved cap s ≡ s
+still_moved cap s h = rw h (free_stays s.status s h)
+
+still-advanced : (factor : Float) (s : ChargerState) → is_free s.status ≡ true → advanced factor s ≡ s
+still-advanced factor s h = still_moved (cap_of factor s) s h
 
 pub added-free : (sum : Float) (s : ChargerState) → is_free s.status ≡ true → added sum s ≡ sum
 unfolding added
@@ -149,8 +156,29 @@ advanced_all : (factor : Float) (ss : List ChargerState) → map (advanced facto
 advanced_all factor [] = refl
 advanced_all factor (s ∷ ss) = rw (advanced_all factor ss)
 
-pub both : (limit : Limit) (curve : ℕ → List Point) (ss : List ChargerState) {asked after : List ChargerState} {sum factor : Float}
+-- a limit that is not shared evenly
+pub unshared_by_factor : (limit : Limit) → ((watts : ℕ) → limit ≡ Shared watts → ⊥) → by_factor limit ≡ true
+unshared_by_factor Unlimited unshared = refl
+unshared_by_factor (AtMost kw) unshared = refl
+unshared_by_factor (Shared watts) unshared = absurd (unshared watts refl)
+
+by_one_factor : (limit : Limit) (ss : List ChargerState) → by_factor limit ≡ true → caps limit ss ≡ scaled_caps limit ss
+unfolding caps
+by_one_factor Unlimited ss h = refl
+by_one_factor (AtMost kw) ss h = refl
+by_one_factor (Shared watts) ss h = cc
+
+-- by one factor
+pub both : (limit : Limit) (curve : ℕ → List Point) (ss : List ChargerState) {asked after : List ChargerState} {sum factor : Float} → by_factor limit ≡ true
     → asked ≡ map (active (request curve)) ss → sum ≡ total (ratio 0 1) asked → factor ≡ scaling limit sum → after ≡ map (advanced factor) asked
     → after ≡ charge limit curve ss
+unfolding allocate
+both limit curve ss {asked} {sum = sum} {factor = factor} h a s f m =
+    let by_factor : map (advanced factor) asked ≡ map progress (with_caps (scaled_caps limit asked) asked) = unfold scaled_caps in rw (advanced_all factor asked, f, s) in
+    m ∙ by_factor ∙ rw (← by_one_factor limit asked h, a)
+
+-- or by even shares
+pub both_shared : (watts : ℕ) (curve : ℕ → List Point) (ss : List ChargerState) {asked after : List ChargerState}
+    → asked ≡ map (active (request curve)) ss → after ≡ map progress (with_caps (even_caps watts asked) asked) → after ≡ charge (Shared watts) curve ss
 unfolding allocate caps
-both limit curve ss {asked} {sum = sum} {factor = factor} a s f m = rw (m, advanced_all factor asked, f, s, a)
+both_shared watts curve ss a m = rw (m, a)

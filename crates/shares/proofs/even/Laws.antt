@@ -153,7 +153,7 @@ module _ (rs : List ℕ) (limit : ℕ) where
       given-first l (left_over rs limit) rs i j k (short l (get_or rs i 0) _ (given_at l (left_over rs limit) rs i) a))
 
   pub fair : Fair rs limit (shares rs limit)
-  fair = record { count = same_count rs limit; asked = asked; sum = sum rs limit; even = even; first = first }
+  fair = record { count = same_count rs limit; asked = asked; sum = sum rs limit; differ = differ; even = even; first = first }
 
 -- one that is alone gets what it asks, as far as the limit goes
 single : (m : ℕ) (s : List ℕ) → length s ≡ 1 → total s ≡ m → s ≡ m ∷ []

@@ -1,12 +1,12 @@
 -- Laws of watts and kilowatts.
-use Rattle.std.proofs.Common.{◌≡◌, ℕ, ◌*◌, ◌/◌, ◌^◌, ◌≤◌, Bool, true, false, cond, T, leb, ℤ, pos, refl, ap, ◌∙◌, true≢false, zero-le, mul_assoc, le-div_iff_mul-le, mul_right_comm, div-mul-le_self, arith, leb→le, le-leb}
+use Rattle.std.proofs.Common.{◌≡◌, ℕ, ◌*◌, ◌/◌, ◌^◌, ◌≤◌, Bool, true, false, cond, T, leb, ℤ, pos, refl, sym, ap, ◌∙◌, true≢false, zero-le, mul_assoc, le-div_iff_mul-le, mul_right_comm, div-mul-le_self, arith, leb→le, le-leb}
 use native.Mathlib.Nat.{div-le_of_le-mul}
-use lib.Ieee.{Float, nan, inf, fin, binary64, up, down, of_int, div}
+use lib.Ieee.{Float, nan, inf, fin, binary64, up, down, of_int, mul, div}
 use lib.Ieee.Fits.{down_pos}
 use lib.Ieee.Exact.{HasValue}
 use lib.Ieee.Back.{round_whole}
 use lib.Ieee.Scale.{round_same}
-use Rattle.curve.specs.F64.{ratio}
+use Rattle.curve.specs.F64.{◌⊗◌, ratio}
 use Rattle.shares.specs.Watts.{watts_of, kilowatts_of}
 
 -- ---- from 0 to 65,536 kW the watts are the greatest whole number not above 1,000 * m * 2 ^ e
@@ -33,10 +33,24 @@ watts_most (fin false m e) = go (leb (m * up e) (65536 * down e)) (leb→le (m *
     go true p = let t = p tt in div-le_of_le-mul (down e) (omega arith)
     go false p = zero-le
 
--- 0.3 kW, as an f64 a little less than 3 / 10, is 299 W; the product rounded as a float would be 300
+-- 0.3 kW, as an f64 a little less than 3 / 10, is 299 W; the product rounded as a float is 300
 pub three_tenths_lem : watts_of (ratio 3 10) ≡ 299
 unfolding watts_of ratio
 three_tenths_lem = refl
+
+abbrev three_hundred : Float
+three_hundred = fin false 75 (pos 2)
+
+whole : ratio 300 1 ≡ three_hundred
+unfolding ratio
+whole = refl
+
+product : ratio 1000 1 ⊗ ratio 3 10 ≡ three_hundred
+unfolding ratio mul
+product = refl
+
+pub three_tenths_product : ratio 1000 1 ⊗ ratio 3 10 ≡ ratio 300 1
+three_tenths_product = product ∙ sym whole
 
 -- ---- w watts are the f64 nearest to w / 1,000, for w to 2 ^ 53
 nearest : (x : Float) (w : ℕ) → HasValue x false w 1 → div binary64 x (ratio 1000 1) ≡ ratio w 1000

@@ -38,4 +38,4 @@ returns c =
     let answer : r ≡ dump_answer c.args.plan.now c.args.engine c.args.allowance (length c.args.book.now) (length c.args.dump.now)
     = rw (ran.stopped.counted, by_plan _ _ _ _ _ c.if-engine-gt0.false c.if-allowance-gt10000000.false c.if-book-lt7168.false c.if-dump-lt16384.false (Ok tt) c.in_ok-read_plan.ensures.answer.fine) in
     let p = dumped _ _ _ r _ _ _ _ answer ran.stopped.book (rw ran.stopped.counted ran.stopped.back) ran.dump in
-    record { answer = answer; book = ran.stopped.book; dump = ran.dump; unbroken = p.unbroken; fits = p.fits; determines = p.determines; blocks = p.blocks; continues = p.continues; sessions = p.sessions; back = p.run.back; units = p.run.units; free = p.run.free; settled = p.run.settled; spots = p.run.spots; ids = p.run.ids; counts = p.run.counts; outcomes = p.run.outcomes; closed = p.run.closed; waits = p.run.waits; handled = p.run.handled; events = p.run.events; hot_day = p.run.hot_day; rating = p.run.rating; fleets = p.run.fleets; carried = p.run.carried; no_fleets = p.run.no_fleets }
+    record { answer = answer; book = ran.stopped.book; dump = ran.dump; unbroken = p.unbroken; fits = p.fits; determines = p.determines; blocks = p.blocks; continues = p.continues; sessions = p.sessions; back = p.run.back; units = p.run.units; free = p.run.free; settled = p.run.settled; spots = p.run.spots; ids = p.run.ids; counts = p.run.counts; outcomes = p.run.outcomes; closed = p.run.closed; waits = p.run.waits; handled = p.run.handled; events = p.run.events; hot_day = p.run.hot_day; rating = p.run.rating; fleets = p.run.fleets; carried = p.run.carried; no_fleets = p.run.no_fleets; no_limit = p.run.no_limit }

@@ -29,4 +29,4 @@ returns c =
     let answer : c.resume_site.result ≡ continued_answer c.args.plan.now c.args.dump.now c.args.further (length c.args.book.now)
     = ran.answer ∙ sym (by_plan _ _ _ _ c.if-further-gt10000000.false c.if-book-lt7168.false (Ok tt) c.in_ok-read_plan.ensures.answer.fine) in
     let p = resumed _ _ _ c.resume_site.result _ _ answer ran.book ran.back in
-    record { answer = answer; book = ran.book; unbroken = p.unbroken; reached = p.reached; parts = p.parts; ended = p.ended; more = p.more; back = p.run.back; units = p.run.units; free = p.run.free; settled = p.run.settled; spots = p.run.spots; ids = p.run.ids; counts = p.run.counts; outcomes = p.run.outcomes; closed = p.run.closed; waits = p.run.waits; handled = p.run.handled; events = p.run.events; hot_day = p.run.hot_day; rating = p.run.rating; fleets = p.run.fleets; carried = p.run.carried; no_fleets = p.run.no_fleets }
+    record { answer = answer; book = ran.book; unbroken = p.unbroken; reached = p.reached; parts = p.parts; ended = p.ended; more = p.more; back = p.run.back; units = p.run.units; free = p.run.free; settled = p.run.settled; spots = p.run.spots; ids = p.run.ids; counts = p.run.counts; outcomes = p.run.outcomes; closed = p.run.closed; waits = p.run.waits; handled = p.run.handled; events = p.run.events; hot_day = p.run.hot_day; rating = p.run.rating; fleets = p.run.fleets; carried = p.run.carried; no_fleets = p.run.no_fleets; no_limit = p.run.no_limit }

@@ -33,4 +33,4 @@ returns c =
     let answer : r ≡ answer_of c.args.plan.now c.args.engine c.args.allowance (length c.args.book.now)
     = rw (done.counted, by_plan _ _ _ _ known c.if-allowance-gt10000000.false c.if-book-lt7168.false (Ok tt) c.in_ok-read_plan.ensures.answer.fine) in
     let p = promised _ _ _ r (known_run _ _ _ _ r answer) _ _ done.book (rw done.counted done.back) in
-    record { answer = answer; book = done.book; back = p.back; units = p.units; free = p.free; settled = p.settled; spots = p.spots; ids = p.ids; counts = p.counts; outcomes = p.outcomes; closed = p.closed; waits = p.waits; handled = p.handled; events = p.events; steps = p.steps; hot_day = p.hot_day; rating = p.rating; fleets = p.fleets; carried = p.carried; no_fleets = p.no_fleets }
+    record { answer = answer; book = done.book; back = p.back; units = p.units; free = p.free; settled = p.settled; spots = p.spots; ids = p.ids; counts = p.counts; outcomes = p.outcomes; closed = p.closed; waits = p.waits; handled = p.handled; events = p.events; steps = p.steps; shares = p.shares; hot_day = p.hot_day; rating = p.rating; fleets = p.fleets; carried = p.carried; no_fleets = p.no_fleets; no_limit = p.no_limit }

@@ -10,7 +10,7 @@ pub offset_bounds-bank-i : goal.offset_bounds-bank-i
 offset_bounds-bank-i c = omega (arith, bounds-bank-i c)
 
 pub loop-i-preserved : goal.loop-i-preserved
-loop-i-preserved c = passing_more _ _ c.requires.cars c.loop-i-test.true c.loop-i.invariant c.move_on-any.ensures.moved (or_finished_with _ _ c.move_on-any.new.s c.move_on-any.ensures.finished)
+loop-i-preserved c = passing_more _ _ c.requires.cars c.loop-i-test.true c.loop-i.invariant (rw c.cap_of-cap.ensures at c.move_on-any.ensures.moved) (or_finished_with _ _ c.move_on-any.new.s c.move_on-any.ensures.finished)
 
 pub returns-clause-moved : goal.returns-clause-moved
 returns-clause-moved c =

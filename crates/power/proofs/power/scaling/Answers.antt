@@ -14,3 +14,7 @@ returns-then-kw-sum c = simp (c.in-AtMost.is, c.if-kw-sum.true)
 pub returns-else-kw-sum : goal.returns-else-kw-sum
 unfolding scaling ratio of_bits
 returns-else-kw-sum c = simp (c.in-AtMost.is, c.if-kw-sum.false)
+
+pub returns-in-Shared : goal.returns-in-Shared
+unfolding scaling ratio of_bits
+returns-in-Shared c = simp c.in-Shared.is

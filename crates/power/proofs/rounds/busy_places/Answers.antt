@@ -11,6 +11,6 @@ push-requires c =
 pub loop-i-preserved : goal.loop-i-preserved
 loop-i-preserved c =
     elim c.if-not-is_free.branch [
-      | then-not-is_free w ↦ rw (w.places-is, w.push.ensures.items) (gathered_car _ _ _ c.loop-i-test.true c.loop-i.invariant)
+      | then-not-is_free w ↦ rw (w.places-is, w.push.ensures.items) (gathered_car _ _ _ c.loop-i-test.true c.loop-i.invariant _ (sym c.is_free.ensures ∙ w.if-not-is_free.true))
       | else-not-is_free w ↦ rw w.places-is (gathered_free _ _ _ c.loop-i-test.true c.loop-i.invariant _ (sym c.is_free.ensures ∙ w.if-not-is_free.false))
     ]

@@ -1,0 +1,3 @@
+pub mod AmongFree
+pub mod Deals
+pub mod Evenly
