@@ -2,7 +2,7 @@
 """Plans from text, books as text, tables and pictures, and dumps in words.
 
 The program target/bin/site reads what `input` writes, and writes what `show` and the others read: a book or a refusal.
-`totals` has each book read by the program target/bin/totals.
+`totals` has each book read by the program target/bin/totals, and `practice` has its plan written by target/bin/practice_day.
 `dump` reads what the calls site_dump and site_book_late write, and `car` writes the block of a late car for site_book_late.
 FILE is standard input where it is left out or is -.
 Exit status: 0 done; 1 a file cannot be read, is damaged, is refused, or is a refusal; 2 wrong usage.
@@ -14,11 +14,13 @@ import subprocess
 import sys
 from pathlib import Path
 
-from sitefiles import book, dump, plan, refusal, tables, text, totals
+from sitefiles import book, dump, plan, practice, refusal, tables, text, totals
 from sitefiles.blocks import Damaged
 from sitefiles.picture import picture
 
-READER = Path(__file__).resolve().parent.parent / "target" / "bin" / "totals"
+PROGRAMS = Path(__file__).resolve().parent.parent / "target" / "bin"
+READER = PROGRAMS / "totals"
+DAY_MAKER = PROGRAMS / "practice_day"
 
 
 class Failed(Exception):
@@ -106,6 +108,18 @@ def read_totals(name, reader):
         return tables.Named(spoken(name), answer, fault=str(damage))
 
 
+def read_practice(name, maker, seed, count):
+    """The practice day that the program writes for a description's one vehicle."""
+    of_plan = read_text(name, "practice day")
+    try:
+        answer = practice.read(written_by(maker, practice.asked(seed, count, of_plan.data())))
+    except Damaged as damage:
+        raise Failed(f"{maker}: {damage}") from None
+    if isinstance(answer, refusal.Refusal):
+        raise Failed(f"{spoken(name)}: " + "\n".join([*refusal_lines(answer, of_plan), "no practice day is written"]))
+    return answer
+
+
 def written_by(program, data):
     """What a program writes when it is given these bytes."""
     try:
@@ -144,6 +158,10 @@ def make_car(options):
     if car is None:
         raise Failed(f"{spoken(options.text)}: there is no vehicle; the late car is the last one\nno car is written")
     sys.stdout.buffer.write(car)
+
+
+def make_practice(options):
+    sys.stdout.buffer.write(read_practice(options.text, options.maker, options.seed, options.count))
 
 
 def make_input(options):
@@ -215,6 +233,12 @@ def parser():
 
     booked = command("car", make_car, "write the block of a late car from the longer plan's description, whose last vehicle it is")
     booked.add_argument("text", metavar="longer.txt")
+
+    drawn = command("practice", make_practice, "write a practice day's plan: copies of a description's one vehicle, with arrivals and SOCs drawn from a seed")
+    drawn.add_argument("--seed", metavar="SEED", type=number_below(2**32), required=True, help="1 to 4294967295; equal seeds draw equal days")
+    drawn.add_argument("--count", metavar="COUNT", type=number_below(2**32), required=True, help="how many copies, 1 to 64; their ids count from 1")
+    drawn.add_argument("--maker", metavar="PROGRAM", default=DAY_MAKER, help="the program that writes the plan; if left out, target/bin/practice_day")
+    drawn.add_argument("text", metavar="bay.txt")
 
     fed = command("input", make_input, "write what the program reads: engine, allowance and plan")
     fed.add_argument("engine", metavar="ENGINE", type=engine, help="events or 0: fast, ignores the site limit; steps or 1: obeys it")

@@ -150,7 +150,7 @@ class Refusals(unittest.TestCase):
         return refusal.in_words(refusal.read(line), of_plan)
 
     def test_each_rule_has_words(self):
-        for number in range(1, 19):
+        for number in range(1, 20):
             self.assertTrue(self.words(b"%d 0 0\n" % number)[0].startswith(f"refused by {number}: "))
 
     def test_places_without_a_plan(self):
@@ -180,7 +180,7 @@ class Refusals(unittest.TestCase):
         self.assertIn("names block 9, and day.txt has 4 blocks", str(caught.exception))
 
     def test_what_is_no_refusal(self):
-        for line in [b"", b"0 0 0\n", b"19 0 0\n", b"5 2\n", b"5 2 0 0\n", b"5  2 0\n", b"-5 2 0\n", b"BOOX", b"5 2 0\nx", b"\xff"]:
+        for line in [b"", b"0 0 0\n", b"20 0 0\n", b"5 2\n", b"5 2 0 0\n", b"5  2 0\n", b"-5 2 0\n", b"BOOX", b"5 2 0\nx", b"\xff"]:
             with self.assertRaises(Damaged, msg=line):
                 refusal.read(line)
 

@@ -137,6 +137,15 @@ class Plans(Commands):
             ["totals", "--reader", "totals"],
             ["dump", "--plan"],
             ["dump", "a", "b"],
+            ["practice", "day.txt"],
+            ["practice", "--seed", "7", "day.txt"],
+            ["practice", "--count", "7", "day.txt"],
+            ["practice", "--seed", "7", "--count", "7"],
+            ["practice", "--seed", "seven", "--count", "7", "day.txt"],
+            ["practice", "--seed", "4294967296", "--count", "7", "day.txt"],
+            ["practice", "--seed", "-1", "--count", "7", "day.txt"],
+            ["practice", "--seed", "7", "--count", "7.0", "day.txt"],
+            ["practice", "--seed", "7", "--count", "", "day.txt"],
         ]:
             status, out, said = self.run_tool(*words)
             self.assertEqual((status, out), (2, b""), words)
@@ -209,7 +218,7 @@ class Books(Commands):
         self.assertRegex(lines[1], r"  block 7 of .*day.txt, vehicle 7001, line \d+: vehicle 7001 profile 1 ")
         self.assertRegex(lines[2], r"  block 4 of .*day.txt, charger 101, line \d+: charger 101 power 75 kW ")
 
-    def test_refusals_of_dumps_books_and_late_cars_in_words(self):
+    def test_refusals_of_dumps_books_late_cars_and_practice_days_in_words(self):
         for line, saying in [
             (b"13 0 0\n", "the buffer for the dump is shorter than 16,384 bytes"),
             (b"14 0 0\n", "the dump is not that of this plan"),
@@ -217,6 +226,7 @@ class Books(Commands):
             (b"16 0 0\n", "the block count for the session count is against the book's rules"),
             (b"17 0 0\n", "the plan has 64 vehicles already, so no late car can be booked"),
             (b"18 0 0\n", "the late car's arrival is not later than the last handled event"),
+            (b"19 0 0\n", "a practice day's seed is 0, its count is not from 1 to 64"),
         ]:
             status, out, said = self.run_tool("show", "--plan", HERE / "day.txt", stdin=line)
             self.assertEqual((status, said, out.count(b"\n")), (1, "", 1))

@@ -1,11 +1,12 @@
-/* The joined site engine for C and C++: check a plan, run it, dump a run, book a late car into it and continue it, read a book back.
+/* The joined site engine for C and C++: check a plan, run it, dump a run, book a late car into it and continue it, read a book back, make a
+ * practice day.
  *
  * `bash examples/link` proves the functions and makes target/staticlib/libcalls.a, for x86-64 Linux. It needs nothing
  * but memcpy and memset, so no further library is named:
  *
  *     cc main.c -Iinclude target/staticlib/libcalls.a
  *
- * docs/FORMATS.md describes the plan, the book and the dump byte by byte, the late booking, and the refusals.
+ * docs/FORMATS.md describes the plan, the book and the dump byte by byte, the late booking, the practice day, and the refusals.
  *
  * What holds of every call:
  * - Every plan, every dump, every car and every book gets an answer, also one that is damaged or none at all. Nothing needs to
@@ -13,7 +14,7 @@
  * - A call is a function of its arguments alone. It allocates nothing, keeps no pointer and has no state, so calls may run
  *   on several threads at once, each with its own buffers to write and its own `numbers`; what is only read may be shared.
  * - No pointer may be null, also where its length is 0. The buffers of one call may not overlap. `numbers`, `header`
- *   and `sessions` are aligned as uint64_t; `plan`, `book`, `dump`, `car` and `new_dump` may begin anywhere.
+ *   and `sessions` are aligned as uint64_t; `plan`, `book`, `dump`, `car`, `new_dump` and `day` may begin anywhere.
  * - A refused call writes `numbers` and nothing else.
  * - Each call has its SITE_.._STACK, the most bytes of stack that it takes; examples/c/stack.c measures it against them. Give
  *   a thread that calls them 512 KiB or more: the usual 8 MiB is plenty, the 128 KiB of a thread under musl are too few.
@@ -31,14 +32,15 @@ extern "C" {
 #endif
 
 /* Lengths in bytes: a longer plan is refused by 4, a car of another length too, a longer book to read by 15, a shorter buffer for
- * the book by 3, one for a dump by 13. */
+ * the book by 3, one for a dump by 13, one for a practice day by 19. */
 #define SITE_PLAN_MOST 57856
 #define SITE_CAR_BYTES 512
 #define SITE_BOOK_MOST 7168
 #define SITE_BOOK_LEAST 7168
 #define SITE_DUMP_LEAST 16384
+#define SITE_PRACTICE_LEAST 57856
 
-/* A plan that counts more vehicles is refused by 6, a late car that would be one more by 17. */
+/* A plan that counts more vehicles is refused by 6, a late car that would be one more by 17, a practice day of more by 19. */
 #define SITE_VEHICLES_MOST 64
 
 /* A book that counts more sessions is refused by 16. */
@@ -56,6 +58,7 @@ extern "C" {
 #define SITE_CONTINUE_STACK 94208
 #define SITE_BOOK_LATE_STACK 184320
 #define SITE_READ_BOOK_STACK 4096
+#define SITE_PRACTICE_STACK 24576
 
 /* A larger allowance, also of further events, is refused by 2. */
 #define SITE_ALLOWANCE_MOST 10000000
@@ -68,7 +71,7 @@ enum site_engine {
 
 /* Where the eleven numbers of an answer stand. */
 enum site_number {
-    SITE_NUMBER,         /* 0: fine; 1 to 18: refused, and all numbers after the two places are 0 */
+    SITE_NUMBER,         /* 0: fine; 1 to 19: refused, and all numbers after the two places are 0 */
     SITE_PLACE,          /* the block that a refusal names, the first being 1; 0 is none */
     SITE_OTHER_PLACE,    /* for 12 the charger's block beside the vehicle's */
     SITE_USED,           /* units used: events handled, or rounds of one second */
@@ -204,6 +207,21 @@ void site_book_late(const uint8_t *plan, size_t plan_length, const uint8_t *dump
  */
 void site_read_book(const uint8_t *book, size_t book_length, uint64_t header[SITE_HEADER_NUMBERS],
                     uint64_t sessions[SITE_SESSIONS_MOST * SITE_SESSION_NUMBERS], uint64_t numbers[SITE_NUMBERS]);
+
+/* Makes a practice day: a plan with `count` copies of the one vehicle of a plan, whose ids count from 1. What is drawn from the seed for each is
+ * its arrival, a whole second from 0 to 86,399, its start, from 0 to 511/1024, and its target, from 512/1024 to 1023/1024; all else is the
+ * vehicle's. Equal seeds, plans and counts give equal bytes on every machine. site_check takes the written plan, or refuses it by 12.
+ *
+ * plan, plan_length  the bytes of a plan with one vehicle; read only
+ * seed               any number but 0
+ * count              how many cars: 1 to SITE_VEHICLES_MOST
+ * day, day_length    at least SITE_PRACTICE_LEAST bytes. The written plan is longer than the plan by SITE_CAR_BYTES for each car but the
+ *                    first; bytes behind it stay as they were
+ * numbers            all eleven are written: refusals 4 to 12 of the plan, and then 19, or zeros. 19: the seed is 0, `count` is out of
+ *                    its limits, `day` is too short, or the plan has no vehicle or more than one
+ */
+void site_practice(const uint8_t *plan, size_t plan_length, uint32_t seed, uint32_t count, uint8_t *day, size_t day_length,
+                   uint64_t numbers[SITE_NUMBERS]);
 
 #ifdef __cplusplus
 }

@@ -12,7 +12,7 @@ enum { STACK = 1 << 20, PATTERN = 0xa5 };
 
 static uint8_t plan[SITE_PLAN_MOST + 1], shorter[SITE_PLAN_MOST + 1];
 static size_t length, shorter_length;
-static uint8_t book[SITE_BOOK_LEAST], dump[SITE_DUMP_LEAST], new_dump[SITE_DUMP_LEAST];
+static uint8_t book[SITE_BOOK_LEAST], dump[SITE_DUMP_LEAST], new_dump[SITE_DUMP_LEAST], day[SITE_PRACTICE_LEAST];
 static uint64_t numbers[SITE_NUMBERS], header[SITE_HEADER_NUMBERS], sessions[SITE_SESSIONS_MOST * SITE_SESSION_NUMBERS];
 static uint8_t *stack, *top;
 
@@ -60,6 +60,14 @@ static void *reading(void *none) {
     return none;
 }
 
+/* The shorter plan has one vehicle. */
+static void *practicing(void *none) {
+    top = __builtin_frame_address(0);
+    for (uint32_t cars = SITE_VEHICLES_MOST + 1; cars > 0; cars--)
+        site_practice(shorter, shorter_length, 1, cars, day, sizeof day, numbers);
+    return none;
+}
+
 /* The bytes between where the calls began and the deepest byte that was written. */
 static long depth(void *(*calls)(void *), void *with) {
     pthread_attr_t attributes;
@@ -89,22 +97,23 @@ static long most_of_continuing(uint32_t *allowances) {
     return most;
 }
 
-/* Makes the shorter plan, which is the plan without its last vehicle. Its header counts a vehicle fewer; so its check, which is a sum, is
- * one less too. The vehicle's block has the check that a late car needs. */
-static void shorten(void) {
+/* Makes the shorter plan, which is the plan without its last vehicles. Its header counts them no more; so its check, which is a sum, is
+ * less by as much. Where one is left out, its block has the check that a late car needs. */
+static void shorten(unsigned fewer) {
     uint32_t check;
-    shorter_length = length < SITE_CAR_BYTES ? 0 : length - SITE_CAR_BYTES;
+    size_t bytes = (size_t)SITE_CAR_BYTES * fewer;
+    shorter_length = length < bytes ? 0 : length - bytes;
     memcpy(shorter, plan, sizeof shorter);
-    shorter[8]--;
+    shorter[8] -= fewer;
     memcpy(&check, shorter + 508, sizeof check);
-    check--;
+    check -= fewer;
     memcpy(shorter + 508, &check, sizeof check);
 }
 
 /* The most that a late booking takes, over dumps of the shorter plan after each of the allowances. */
 static long most_of_booking(const uint32_t *allowance) {
     long most = 0;
-    shorten();
+    shorten(1);
     for (; *allowance <= SITE_ALLOWANCE_MOST; allowance++) {
         site_dump(shorter, shorter_length, SITE_EVENTS, *allowance, book, sizeof book, dump, sizeof dump, numbers);
         most = larger(most, depth(booking, NULL));
@@ -123,6 +132,17 @@ static long most_of_reading(const uint32_t *allowance) {
     return most;
 }
 
+/* What a practice day takes, of the plan's first vehicle. */
+static long most_of_practice(void) {
+    shorten(plan[8] == 0 ? 0 : plan[8] - 1u);
+    long taken = depth(practicing, NULL);
+    if (numbers[SITE_NUMBER] != 0) {
+        fprintf(stderr, "no practice day was written\n");
+        exit(1);
+    }
+    return taken;
+}
+
 /* Prints what the calls take for the plan that was read. True if none takes more than site.h says. */
 static int measure(const char *name) {
     uint32_t allowances[] = {0, 1, 10, 100, 40000, SITE_ALLOWANCE_MOST, SITE_ALLOWANCE_MOST + 1};
@@ -136,6 +156,7 @@ static int measure(const char *name) {
         {"site_continue", most_of_continuing(allowances), SITE_CONTINUE_STACK},
         {"site_book_late", most_of_booking(allowances), SITE_BOOK_LATE_STACK},
         {"site_read_book", most_of_reading(allowances), SITE_READ_BOOK_STACK},
+        {"site_practice", most_of_practice(), SITE_PRACTICE_STACK},
     };
     int fine = 1;
     printf("%s, bytes of stack", name);

@@ -25,6 +25,7 @@ RULES = {
     16: "a header or session field, a zero byte, or the block count for the session count is against the book's rules",
     17: "the plan has 64 vehicles already, so no late car can be booked",
     18: "the late car's arrival is not later than the last handled event",
+    19: "a practice day's seed is 0, its count is not from 1 to 64, the buffer for it is shorter than 57,856 bytes, or its plan has not just one vehicle",
 }
 
 

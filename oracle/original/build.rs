@@ -14,6 +14,8 @@ mod changes;
 mod dump_slips;
 #[path = "../slipped/late_slips.rs"]
 mod late_slips;
+#[path = "../slipped/practice_slips.rs"]
+mod practice_slips;
 mod slips;
 
 use change::{Change, changed, stop};
@@ -85,6 +87,7 @@ fn slip() -> Option<Change> {
     let found = slips::SLIPS.iter().find(|(known, _)| *known == name).map(|(_, change)| *change);
     let of_calls = call_slips::CALL_SLIPS.iter().chain(&dump_slips::DUMP_SLIPS);
     let of_calls = of_calls.chain(&book_slips::BOOK_SLIPS).chain(&late_slips::LATE_SLIPS);
+    let of_calls = of_calls.chain(&practice_slips::PRACTICE_SLIPS);
     let names: Vec<&str> = slips::SLIPS.iter().chain(of_calls).map(|(known, _)| *known).collect();
     if !names.contains(&name.as_str()) {
         stop(&format!("SLIP is {name}; known are: {}.", names.join(", ")));

@@ -1,4 +1,4 @@
-//! The calls of requests 1 and 7 on both sides, and what a case draws for them.
+//! The calls of requests 1, 7 and 11 on both sides, and what a case draws for them.
 use crate::accounts::Run;
 use crate::blocks::{BLOCK, hash, put, put_f64, reseal, u16_at, u32_at, u64_at};
 use crate::book::LEAST_BOOK;
@@ -7,9 +7,9 @@ use crate::draw::Draw;
 use crate::dump::LEAST_DUMP;
 use crate::generate::Case;
 use crate::plan::FLEET;
-use crate::sides::{first_byte, numbers, other_book_late, other_dump, other_resume, prefilled};
+use crate::sides::{first_byte, numbers, other_book_late, other_dump, other_practice, other_resume, prefilled};
 use crate::words;
-use crate::{Numbers, book_late, dump, resume};
+use crate::{Numbers, book_late, dump, practice, resume};
 use std::collections::BTreeMap;
 use std::fmt::{self, Display};
 
@@ -23,6 +23,9 @@ pub struct Tally {
     pub dumps: BTreeMap<u64, u64>,
     pub continued: BTreeMap<u64, u64>,
     pub booked: BTreeMap<u64, u64>,
+    pub practised: BTreeMap<u64, u64>,
+    /// The checks of what the last of these calls wrote.
+    pub days: BTreeMap<u64, u64>,
 }
 
 /// A call, with the lengths of the buffers that it may write to.
@@ -31,6 +34,7 @@ pub enum Call<'a> {
     Dump { plan: &'a [u8], engine: u32, allowance: u32, book: usize, dump: usize },
     Continue { plan: &'a [u8], dump: &'a [u8], further: u32, book: usize },
     BookLate { plan: &'a [u8], dump: &'a [u8], car: &'a [u8], new_dump: usize },
+    Practice { plan: &'a [u8], seed: u32, count: u32, out: usize },
 }
 
 /// The numbers of a call, and its prefilled buffers after it. One that it has not is empty.
@@ -39,43 +43,52 @@ pub struct Left {
     pub book: Vec<u8>,
     /// The new one where a car is booked.
     pub dump: Vec<u8>,
+    pub day: Vec<u8>,
 }
 
 impl Call<'_> {
-    fn lent(&self) -> [Vec<u8>; 2] {
-        match *self {
-            Self::Dump { book, dump, .. } => [prefilled(book), prefilled(dump)],
-            Self::Continue { book, .. } => [prefilled(book), Vec::new()],
-            Self::BookLate { new_dump, .. } => [Vec::new(), prefilled(new_dump)],
-        }
+    fn lent(&self) -> Left {
+        let lengths = match *self {
+            Self::Dump { book, dump, .. } => [book, dump, 0],
+            Self::Continue { book, .. } => [book, 0, 0],
+            Self::BookLate { new_dump, .. } => [0, new_dump, 0],
+            Self::Practice { out, .. } => [0, 0, out],
+        };
+        let [book, dump, day] = lengths.map(prefilled);
+        Left { numbers: [0; 11], book, dump, day }
     }
 
     fn wanted(&self) -> Left {
-        let [mut book, mut dumped] = self.lent();
-        let numbers = match *self {
-            Self::Dump { plan, engine, allowance, .. } => dump(plan, engine, allowance, &mut book, &mut dumped),
-            Self::Continue { plan, dump, further, .. } => resume(plan, dump, further, &mut book),
-            Self::BookLate { plan, dump, car, .. } => book_late(plan, dump, car, &mut dumped),
+        let mut left = self.lent();
+        left.numbers = match *self {
+            Self::Dump { plan, engine, allowance, .. } => dump(plan, engine, allowance, &mut left.book, &mut left.dump),
+            Self::Continue { plan, dump, further, .. } => resume(plan, dump, further, &mut left.book),
+            Self::BookLate { plan, dump, car, .. } => book_late(plan, dump, car, &mut left.dump),
+            Self::Practice { plan, seed, count, .. } => practice(plan, seed, count, &mut left.day),
         };
-        Left { numbers, book, dump: dumped }
+        left
     }
 
     fn got(&self) -> Left {
-        let [mut book, mut dumped] = self.lent();
-        let numbers = match *self {
-            Self::Dump { plan, engine, allowance, .. } => other_dump(plan, engine, allowance, &mut book, &mut dumped),
-            Self::Continue { plan, dump, further, .. } => other_resume(plan, dump, further, &mut book),
-            Self::BookLate { plan, dump, car, .. } => other_book_late(plan, dump, car, &mut dumped),
+        let mut left = self.lent();
+        left.numbers = match *self {
+            Self::Dump { plan, engine, allowance, .. } => {
+                other_dump(plan, engine, allowance, &mut left.book, &mut left.dump)
+            }
+            Self::Continue { plan, dump, further, .. } => other_resume(plan, dump, further, &mut left.book),
+            Self::BookLate { plan, dump, car, .. } => other_book_late(plan, dump, car, &mut left.dump),
+            Self::Practice { plan, seed, count, .. } => other_practice(plan, seed, count, &mut left.day),
         };
-        Left { numbers, book, dump: dumped }
+        left
     }
 
     /// What is handed in, where that is more than the case's plan.
-    fn digits(&self) -> String {
+    pub fn digits(&self) -> String {
         let given: &[(&str, &[u8])] = match *self {
             Self::Dump { .. } => return String::new(),
             Self::Continue { plan, dump, .. } => &[("plan", plan), ("dump", dump)],
             Self::BookLate { plan, dump, car, .. } => &[("plan", plan), ("dump", dump), ("car", car)],
+            Self::Practice { plan, .. } => &[("plan", plan)],
         };
         given
             .iter()
@@ -96,6 +109,9 @@ impl Display for Call<'_> {
             Self::BookLate { dump, car, new_dump, .. } => {
                 let car = words::describe_car(car);
                 write!(f, "book {car}, a dump of {} bytes, a buffer of {new_dump} bytes", dump.len())
+            }
+            Self::Practice { plan, seed, count, out } => {
+                write!(f, "a day of {count} by seed {seed}, a plan of {} bytes, an output of {out} bytes", plan.len())
             }
         }
     }
@@ -119,13 +135,16 @@ impl<'a> Bench<'a> {
             Call::Dump { .. } => &mut self.tally.dumps,
             Call::Continue { .. } => &mut self.tally.continued,
             Call::BookLate { .. } => &mut self.tally.booked,
+            Call::Practice { .. } => &mut self.tally.practised,
         };
         *answers.entry(wanted.numbers[0]).or_default() += 1;
         let of = |name: &str, byte: Option<String>| byte.map(|byte| format!("{name}: {byte}"));
         let difference = if wanted.numbers != got.numbers {
             Some(format!("wanted {}, got {}", numbers(&wanted.numbers), numbers(&got.numbers)))
         } else {
-            of("dump", first_byte(&wanted.dump, &got.dump)).or_else(|| of("book", first_byte(&wanted.book, &got.book)))
+            of("dump", first_byte(&wanted.dump, &got.dump))
+                .or_else(|| of("book", first_byte(&wanted.book, &got.book)))
+                .or_else(|| of("day", first_byte(&wanted.day, &got.day)))
         };
         match difference {
             Some(difference) => Err(format!("{what}: {call}: {difference}{}", call.digits())),
@@ -139,6 +158,18 @@ impl<'a> Bench<'a> {
         match left.numbers[0] == number {
             true => Ok(left),
             false => Err(format!("{what}: {call}: both sides answer {}, not {number}", left.numbers[0])),
+        }
+    }
+
+    /// Makes the call on both sides, and expects these numbers.
+    pub fn numbered(&mut self, call: Call, expected: &Numbers, what: impl Display) -> Found<Left> {
+        let left = self.alike(call, &what)?;
+        match left.numbers == *expected {
+            true => Ok(left),
+            false => {
+                let [wanted, got] = [expected, &left.numbers].map(numbers);
+                Err(format!("{what}: {call}: both sides answer {got}, not {wanted}"))
+            }
         }
     }
 
@@ -230,4 +261,11 @@ pub fn as_unbroken(left: &Left, run: &Run) -> Found {
         Some(byte) => Err(format!("the unbroken run's book: {byte}")),
         None => Ok(()),
     }
+}
+
+/// The numbers of a refusal without places.
+pub fn refusal(number: u64) -> Numbers {
+    let mut numbers = [0; 11];
+    numbers[0] = number;
+    numbers
 }

@@ -1,4 +1,4 @@
-//! The calls over the original, and the reader of books.
+//! The calls over the original, the reader of books and the practice day.
 pub use crate::plan;
 pub use original;
 
@@ -8,5 +8,7 @@ pub mod book_late;
 pub mod calls;
 #[path = "dump_calls.rs"]
 pub mod dump_calls;
+#[path = "practice.rs"]
+pub mod practice;
 #[path = "read_book.rs"]
 pub mod read_book;

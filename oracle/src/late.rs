@@ -10,13 +10,12 @@ use crate::Numbers;
 use crate::accounts::Run;
 use crate::blocks::{BLOCK, Block, CHECK, check_of, put, u32_at, u64_at};
 use crate::book::LEAST_BOOK;
-use crate::both::{Bench, Call, Found, Left, MOST, Tally, as_unbroken};
+use crate::both::{Bench, Call, Found, MOST, Tally, as_unbroken, refusal};
 use crate::draft::Draft;
 use crate::dump::{LEAST_DUMP, events, length};
 use crate::generate::Case;
 use crate::plan::MOST_VEHICLES;
-use crate::sides::{numbers, prefilled};
-use std::fmt::Display;
+use crate::sides::prefilled;
 
 /// Cars are booked at this many cuts of a run at most.
 const CUTS: usize = 12;
@@ -80,13 +79,6 @@ fn all_events(plan: &[u8]) -> u32 {
     Run::new(plan, 0, MOST).numbers[3] as u32
 }
 
-/// The numbers of a refusal without places.
-fn refusal(number: u64) -> Numbers {
-    let mut numbers = [0; 11];
-    numbers[0] = number;
-    numbers
-}
-
 impl Bench<'_> {
     fn late(&mut self, case: &Case) -> Found {
         let mut dumps = Vec::new();
@@ -131,18 +123,6 @@ impl Bench<'_> {
                 self.booked(&cut, &car).map(drop)
             }
             None => Ok(()),
-        }
-    }
-
-    /// Makes the call on both sides, and expects these numbers.
-    fn numbered(&mut self, call: Call, expected: &Numbers, what: impl Display) -> Found<Left> {
-        let left = self.alike(call, &what)?;
-        match left.numbers == *expected {
-            true => Ok(left),
-            false => {
-                let [wanted, got] = [expected, &left.numbers].map(numbers);
-                Err(format!("{what}: {call}: both sides answer {got}, not {wanted}"))
-            }
         }
     }
 

@@ -9,6 +9,7 @@ pub mod book;
 pub mod books;
 pub mod both;
 pub mod cuts;
+pub mod days;
 pub mod draft;
 pub mod draw;
 pub mod dump;
@@ -31,6 +32,7 @@ mod product;
 pub use faithful::book_late::book_late;
 pub use faithful::calls::{check, run};
 pub use faithful::dump_calls::{dump, resume};
+pub use faithful::practice::{LEAST_DAY, practice};
 pub use faithful::read_book::read_book;
 
 /// Number, place, place, used, ended, yet to arrive, queued, open, charged, reneged, balked.

@@ -44,6 +44,15 @@ unsafe extern "C" {
         new_dump_len: usize,
         numbers: *mut [u64; 11],
     );
+    fn site_practice(
+        plan: *const u8,
+        plan_len: usize,
+        seed: u32,
+        count: u32,
+        out: *mut u8,
+        out_len: usize,
+        numbers: *mut [u64; 11],
+    );
     fn site_read_book(
         book: *const u8,
         book_len: usize,
@@ -101,6 +110,14 @@ pub fn book_late(plan: &[u8], dump: &[u8], car: &[u8], new_dump: &mut [u8]) -> N
     // SAFETY: each pointer comes with the length of the memory it points to; there are always eleven numbers.
     unsafe { site_book_late(plan, plan_len, dump, dump_len, car, car_len, new_dump, new_dump_len, &mut out) };
     out
+}
+
+pub fn practice(plan: &[u8], seed: u32, count: u32, out: &mut [u8]) -> Numbers {
+    let mut numbers = [UNWRITTEN; 11];
+    let (plan, plan_len) = (plan.as_ptr(), plan.len());
+    // SAFETY: each pointer comes with the length of the memory it points to; there are always eleven numbers.
+    unsafe { site_practice(plan, plan_len, seed, count, out.as_mut_ptr(), out.len(), &mut numbers) };
+    numbers
 }
 
 pub fn read_book(book: &[u8], header: &mut Header, sessions: &mut Sessions) -> Numbers {

@@ -2,7 +2,7 @@
 use crate::arguments::stop;
 use crate::both::Tally;
 use crate::generate::Case;
-use crate::{Numbers, cuts, late, program};
+use crate::{Numbers, cuts, days, late, program};
 use std::cell::RefCell;
 use std::io::Write;
 use std::path::{Path, PathBuf};
@@ -11,14 +11,15 @@ use std::sync::LazyLock;
 
 #[cfg(product)]
 pub use crate::product::{
-    book_late as other_book_late, check as other_check, dump as other_dump, read_book as other_read_book,
-    resume as other_resume, run as other_run,
+    book_late as other_book_late, check as other_check, dump as other_dump, practice as other_practice,
+    read_book as other_read_book, resume as other_resume, run as other_run,
 };
 #[cfg(not(product))]
 pub use crate::slipped::{
     book_late::book_late as other_book_late,
     calls::{check as other_check, run as other_run},
     dump_calls::{dump as other_dump, resume as other_resume},
+    practice::practice as other_practice,
     read_book::read_book as other_read_book,
 };
 
@@ -37,6 +38,8 @@ pub enum Side {
     Dumps(RefCell<Tally>),
     /// By call too: request 7's call, and the runs that are continued from its dumps.
     Late(RefCell<Tally>),
+    /// By call too: request 11's call, and check and run of what it writes.
+    Practice(RefCell<Tally>),
     /// By standard input and output.
     Program(PathBuf),
 }
@@ -48,19 +51,20 @@ impl Side {
             Self::Linked => difference_by_call(case),
             Self::Dumps(tally) => cuts::difference(case, &mut tally.borrow_mut()),
             Self::Late(tally) => late::difference(case, &mut tally.borrow_mut()),
+            Self::Practice(tally) => days::difference(case, &mut tally.borrow_mut()),
             Self::Program(path) => difference_by_program(path, case),
         }
     }
 }
 
 /// What stands in a buffer before a call. It is longer than every buffer of a case.
-static BEFORE: LazyLock<Vec<u8>> = LazyLock::new(|| (0..32_768).map(|k| (k % 251 + 3) as u8).collect());
+static BEFORE: LazyLock<Vec<u8>> = LazyLock::new(|| (0..65_536).map(|k| (k % 251 + 3) as u8).collect());
 
 pub fn prefilled(len: usize) -> Vec<u8> {
     BEFORE[..len].to_vec()
 }
 
-fn difference_by_call(case: &Case) -> Option<String> {
+pub fn difference_by_call(case: &Case) -> Option<String> {
     let (wanted, got) = (crate::check(&case.plan), other_check(&case.plan));
     if wanted != got {
         return Some(format!("check: wanted {}, got {}", numbers(&wanted), numbers(&got)));

@@ -4,6 +4,7 @@
 mod bookings;
 mod books;
 mod dumps;
+mod practice_days;
 
 ghost use Rattle.std.specs.Prelude.{◌≡◌, length};
 ghost use Rattle.files.specs.Check.{check_plan, AllSealed};

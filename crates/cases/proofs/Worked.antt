@@ -4,7 +4,7 @@ use mathlib.Core.Path.{◌≡◌, refl, ap, ◌∙◌, subst}
 use mathlib.Core.Bool.{Bool, true, false, cond, not}
 use mathlib.Core.List.{List, [], ◌∷◌, append-nil}
 use borrow.Author.Tests.{eq-eqb}
-use lib.Dec.{leb}
+use lib.Dec.{leb, eqb}
 use lib.ListN.{length, get_or}
 use lib.IntN.{pos, negsuc}
 use lib.Ieee.{fin, of_bits, to_bits, eq, lt, le, ne, add, sub, mul, div, of_int, to_unsigned}
@@ -33,7 +33,7 @@ use Rattle.plan.specs.Places.{kind_at, vehicle_count}
 use Rattle.plan.specs.Plan.{id_at, with_id, new_soc, first_refusal, check_blocks}
 use Rattle.files.specs.Read.{read_plan, points_of, curve_of_profile, battery_of, chargers_of, connector_rows, profile_index, vehicle_of, vehicle_in, vehicles_of, queue_places_of, limit_of}
 use Rattle.files.specs.Pairs.{failing_charger, failing_pair}
-use Rattle.files.specs.Check.{check_plan}
+use Rattle.files.specs.Check.{then_check, check_plan}
 use Rattle.files.proofs.check.PairLaws.{plan_fine}
 use Rattle.files.specs.Call.{stop_of, book_of}
 use Rattle.files.specs.BookSession.{vehicle_number, charger_id, book_sessions, no_session}
@@ -43,16 +43,20 @@ use Rattle.files.specs.Book as B
 use Rattle.dump.specs.EventBlocks.{event_bytes, event_slot, event_block, event_blocks}
 use Rattle.dump.specs.Dump.{table, header_block, dump_bytes, dump_of, handled_in, is_dump}
 use Rattle.dump.proofs.dump.Runs.{is_own}
-use Rattle.late_booking.specs.LongerPlan.{raised, longer}
+use Rattle.plan.specs.Header.{counting, header_counting}
+use Rattle.late_booking.specs.LongerPlan.{longer}
 use Rattle.late_booking.specs.LateCar.{arrival_in, is_later}
 use Rattle.late_booking.specs.Call.{booking_answer, late_answer}
 use Rattle.book_reader.specs.Reader.{damaged, session_ok, rest_ok, against_rules, test_answer, read_book, session_numbers}
-use Rattle.plan.specs.declared.answer.Refusal.TheVariants.{Broken, CannotCharge, NotLater}
+use Rattle.practice.specs.Xorshift.{step, draw}
+use Rattle.practice.specs.PracticePlan.{car_bytes, car_block, practice_plan}
+use Rattle.practice.specs.Call.{practice_answer}
+use Rattle.plan.specs.declared.answer.Refusal.TheVariants.{Broken, CannotCharge, NotLater, NoPracticeDay}
 use Rattle.plan.specs.declared.answer.Rule.TheVariants.{Field}
 use Rattle.engine.specs.declared.session.Session.{Session}
 use Rattle.engine.specs.declared.session.Outcome.TheVariants.{Charged}
 use Rattle.cases.specs.Bay.{kwh, Bay, plan, bay, second_car, at_target, at_target_under, three_tenths, at_one_kw, nacs_capped, vans, late_car}
-use Rattle.cases.specs.Cases.{dump, refused, ended, charged, one_round, one_round_at, watt, events, steps, run, book_late, Result, if_fine, back_from, if_booked, result, Worked, ◌gives◌, Holds, worked}
+use Rattle.cases.specs.Cases.{dump, refused, ended, charged, one_round, one_round_at, watt, events, steps, run, book_late, Result, if_fine, back_from, if_booked, if_made, Drawn, drawn_cars, comes, result, Worked, ◌gives◌, Holds, worked}
 use Rattle.std.specs.Prelude.{Result as Answered, Ok, Err}
 use Rattle.plan.specs.declared.answer.Refusal.{Refusal}
 
@@ -164,7 +168,7 @@ module _ (plan car : List ℕ) (n : ℕ) (fine : check_plan plan ≡ Ok tt) (one
   by_arrival later = rw (eq-eqb (length car) 512 one, fine, own_dump, room, later)
 
 m2_longer : longer (plan bay) (late_car 200) ≡ plan (second_car 1800 10)
-unfolding longer raised sealed check_of words le_at bytes plan
+unfolding longer header_counting counting sealed check_of words le_at bytes plan
 m2_longer = refl
 
 late_fine : late_answer (plan bay) (dump_of (plan bay) 1) (late_car 200) 16384 ≡ Ok tt
@@ -174,6 +178,33 @@ late_fine = by_arrival (plan bay) (late_car 200) 1 bay_fine refl refl {t = true}
 late_refused : late_answer (plan bay) (dump_of (plan bay) 1) (late_car 100) 16384 ≡ Err NotLater
 unfolding check dumped
 late_refused = by_arrival (plan bay) (late_car 100) 1 bay_fine refl refl {t = false} refl
+
+-- ---- a practice day of the bay
+
+abbrev practice_day : ℕ → ℕ → List ℕ
+practice_day seed count = practice_plan (plan bay) seed count
+
+day_fine : practice_answer (plan bay) 1 2 57856 ≡ Ok tt
+unfolding practice_answer plan le_at bytes check
+day_fine = ap (λ a. then_check a (cond (not (eqb (vehicle_count (plan bay)) 1)) (Err NoPracticeDay) (Ok tt))) bay_fine
+
+day_of_seed_0 : practice_answer (plan bay) 0 2 57856 ≡ Err NoPracticeDay
+unfolding practice_answer check
+day_of_seed_0 = ap (λ a. then_check a (Err NoPracticeDay)) bay_fine
+
+day_of_two_cars : practice_answer (plan (second_car 1800 10)) 1 2 57856 ≡ Err NoPracticeDay
+unfolding practice_answer plan le_at bytes check
+day_of_two_cars = ap (λ a. then_check a (cond (not (eqb (vehicle_count (plan (second_car 1800 10))) 1)) (Err NoPracticeDay) (Ok tt))) m2_fine
+
+abbrev first_drawn : List Drawn
+first_drawn =
+    record { id = 1; arrival = 11169; start = ratio 1 1024; target = ratio 709 1024 }
+    ∷ record { id = 2; arrival = 15695; start = ratio 465 1024; target = ratio 976 1024 }
+    ∷ []
+
+day_drawn : drawn_cars (practice_day 1 2) ≡ first_drawn
+unfolding practice_plan header_counting counting sealed check_of words pieces car_block car_bytes draw step block le_at bytes each plan to_bits of_bits ratio
+day_drawn = refl
 
 -- ---- the theorem
 
@@ -391,6 +422,22 @@ case_36 : Holds (at 36)
 unfolding worked result stop dumped back shares total cut highest level given left_over watts_of kilowatts_of
 case_36 = by steps 10 (at_target_under (three_tenths 3)) mode_refused refl
 
+case_37 : Holds (at 37)
+unfolding worked result draw step each
+case_37 = refl
+
+case_38 : Holds (at 38)
+unfolding worked result
+case_38 = ap (λ a. if_made a (practice_day 1 2)) day_fine ∙ ap comes day_drawn
+
+case_39 : Holds (at 39)
+unfolding worked result
+case_39 = ap (λ a. if_made a (practice_day 0 2)) day_of_seed_0
+
+case_40 : Holds (at 40)
+unfolding worked result
+case_40 = ap (λ a. if_made a (practice_plan (plan (second_car 1800 10)) 1 2)) day_of_two_cars
+
 pub worked_through : All Holds worked
 unfolding worked
 worked_through =
@@ -431,4 +478,8 @@ worked_through =
     and case_34
     and case_35
     and case_36
+    and case_37
+    and case_38
+    and case_39
+    and case_40
     and none

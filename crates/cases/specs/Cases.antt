@@ -1,4 +1,4 @@
--- Rules. M1 to M12 of the paper's bay, and requests 8, 1, 5, 7, 9 and 10 at it, worked through: one list of cases, each with what it gives.
+-- Rules. M1 to M12 of the paper's bay, and requests 8, 1, 5, 7, 9, 10 and 11 at it, worked through: one list of cases, each with what it gives.
 use Rattle.std.specs.Prelude.{ℕ, ◌+◌, ◌-◌, ◌*◌, ◌≡◌, Bool, true, false, List, [], ◌∷◌, map, Float, set, Result as Answered, Ok, Err}
 use Rattle.curve.specs.F64.{◌⊗◌, ratio}
 use Rattle.curve.specs.Curve.{integrate_over, curve_of}
@@ -21,6 +21,8 @@ use Rattle.power.specs.ChargerState.{hours}
 use Rattle.power.specs.Power.{allocate}
 use Rattle.engine.specs.Demand.{Stop}
 use Rattle.plan.specs.Bytes.{le_at}
+use Rattle.plan.specs.Fields.{f64_at}
+use Rattle.plan.specs.Places.{vehicle_count, vehicle_block}
 use Rattle.plan.specs.Search.{each}
 use Rattle.files.specs.Read.{read_plan}
 use Rattle.files.specs.Check.{check_plan}
@@ -30,12 +32,15 @@ use Rattle.files.specs.Call.{stop_of, book_of}
 use Rattle.files.specs.declared.book_session.BookSession.{BookSession}
 use Rattle.plan.specs.declared.answer.Rule.TheVariants.{Field}
 use Rattle.plan.specs.declared.answer.Refusal.{Refusal}
-use Rattle.plan.specs.declared.answer.Refusal.TheVariants.{Broken, CannotCharge, BookDamaged, BookAgainstRules, NotLater}
+use Rattle.plan.specs.declared.answer.Refusal.TheVariants.{Broken, CannotCharge, BookDamaged, BookAgainstRules, NotLater, NoPracticeDay}
 use Rattle.dump.specs.Dump.{dump_of, handled_in}
 use Rattle.late_booking.specs.LongerPlan.{longer}
 use Rattle.late_booking.specs.Call.{late_answer}
 use Rattle.book_reader.specs.Reader.{Reading, contents, read_book, session_numbers}
 use Rattle.book_reader.specs.Reader as R
+use Rattle.practice.specs.Xorshift.{draw}
+use Rattle.practice.specs.PracticePlan.{practice_plan}
+use Rattle.practice.specs.Call.{practice_answer}
 use Rattle.cases.specs.Bay.{kw, kwh, seconds, percent, point, plan, bay, second_car, at_target, at_target_under, three_tenths, at_one_kw, nacs_capped, vans, late_car}
 
 -- ---- what a case is, and what it gives
@@ -64,6 +69,17 @@ pub data Case : Type 0 where
   read_back : List ℕ → Case
   -- a car's block booked into a run of a plan's bytes by events, dumped after so many of them
   book_late : ℕ → List ℕ → List ℕ → Case
+  -- the first draws from a seed
+  draws : ℕ → ℕ → Case
+  -- a practice day of a plan's bytes, from a seed, of so many cars
+  practice : ℕ → ℕ → List ℕ → Case
+
+-- a car of a practice day: its id, and what was drawn
+pub record Drawn : Type 0 where
+  pub id : ℕ
+  pub arrival : ℕ
+  pub start : Float
+  pub target : Float
 
 pub data Result : Type 0 where
   -- the plan is fine; units used, ended, sessions
@@ -80,6 +96,10 @@ pub data Result : Type 0 where
   shows : ℕ → List ℕ → List ℕ → List (List ℕ) → Result
   -- a book's engine, ended and used, and the sixteen numbers of each session
   holds : ℕ → ℕ → ℕ → List (List ℕ) → Result
+  -- numbers that were drawn
+  drawn : List ℕ → Result
+  -- the cars of a practice day
+  comes : List Drawn → Result
 
 abbrev pub if_fine : Answered (Unit {0}) Refusal → Stop → Result
 if_fine (Ok u) s = stopped s.used s.ended s.sessions
@@ -105,6 +125,18 @@ abbrev pub if_booked : Answered (Unit {0}) Refusal → List ℕ → Result
 if_booked (Ok u) new = shown new
 if_booked (Err x) new = refused x
 
+-- the cars that a plan's vehicles are
+abbrev pub drawn_cars : List ℕ → List Drawn
+drawn_cars plan =
+    each
+    (λ v. let b = vehicle_block plan v in
+    record { id = le_at 4 b 0; arrival = le_at 8 b 40; start = f64_at b 16; target = f64_at b 24 })
+    0 (vehicle_count plan)
+
+abbrev pub if_made : Answered (Unit {0}) Refusal → List ℕ → Result
+if_made (Ok u) plan = comes (drawn_cars plan)
+if_made (Err x) plan = refused x
+
 unfoldable pub result : Case → Result
 result (run engine allowance plan) = if_fine (check_plan plan) (stop_of (read_plan plan) engine allowance)
 result (charge battery points start target cap) = takes (integrate_over (curve_of points) battery start target cap)
@@ -114,6 +146,8 @@ result (share requests limit) = in_watts (shares requests limit)
 result (dump n plan) = shown (dump_of plan n)
 result (read_back book) = back_from (read_book book)
 result (book_late n plan car) = if_booked (late_answer plan (dump_of plan n) car 16384) (dump_of (longer plan car) n)
+result (draws seed n) = drawn (each (draw seed) 1 n)
+result (practice seed count plan) = if_made (practice_answer plan seed count 57856) (practice_plan plan seed count)
 
 infix 68 ◌gives◌
 pub data Worked : Type 0 where
@@ -289,4 +323,13 @@ worked =
     run steps 10 (plan (at_target_under (three_tenths 2))) gives ended 3 (charged 0 0 2 0 (one_round_at (watt 299)) (record { 0 = ratio 3 2 }) ∷ []) ∷
     run events 10 (plan (at_target_under (three_tenths 2))) gives ended 3 (charged 0 0 2 0 (output (seconds 0) (kwh 0) (kw 0)) (record { 0 = ratio 3 2 }) ∷ []) ∷
     run steps 10 (plan (at_target_under (three_tenths 3))) gives refused (Broken Field 1) ∷
+    -- request 11: the generator's first outputs for seed 1, and the bay's car twice by them; seed 0 and a plan of two cars are refused by 19
+    draws 1 6 gives drawn (270369 ∷ 67634689 ∷ 2647435461 ∷ 307599695 ∷ 2398689233 ∷ 745495504 ∷ []) ∷
+    practice 1 2 (plan bay) gives
+    comes
+    (record { id = 1; arrival = 11169; start = ratio 1 1024; target = ratio 709 1024 }
+    ∷ record { id = 2; arrival = 15695; start = ratio 465 1024; target = ratio 976 1024 }
+    ∷ []) ∷
+    practice 0 2 (plan bay) gives refused NoPracticeDay ∷
+    practice 1 2 (plan (second_car 1800 10)) gives refused NoPracticeDay ∷
     []

@@ -8,3 +8,4 @@ pub mod Monotone
 pub mod Grid
 pub mod InUnits
 pub mod Quotients
+pub mod Whole

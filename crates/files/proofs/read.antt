@@ -1,4 +1,3 @@
 -- Laws that the functions of the module and others cite.
 pub mod Laws
-pub mod Accepted
 pub mod Within

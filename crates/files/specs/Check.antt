@@ -19,6 +19,11 @@ abbrev pub then_check : {T : Type 0} → Result (Unit {0}) Refusal → Result T 
 then_check (Ok u) next = next
 then_check (Err x) next = Err x
 
+-- what is said where nothing was refused
+abbrev pub OfFine : Type 0 → Result (Unit {0}) Refusal → Type 0
+OfFine P (Ok u) = P
+OfFine P (Err x) = Unit {0}
+
 -- the pairs are tested where the blocks are fine
 unfoldable pub check_plan : List ℕ → Result (Unit {0}) Refusal
 check_plan plan = then_check (check_blocks plan) (pair_answer plan (failing_pair (read_plan plan)))

@@ -1,5 +1,5 @@
 -- Rules. Request 7, sentence by sentence, of a car that was booked late: what was done stands, and the run goes on as one planned in full.
-use Rattle.std.specs.Prelude.{ℕ, ◌+◌, ◌*◌, ◌≤◌, ◌<◌, ◌≡◌, true, false, List, ◌∷◌, ◌++◌, length, take, drop, Result, Ok, Err}
+use Rattle.std.specs.Prelude.{ℕ, ◌+◌, ◌*◌, ◌≤◌, ◌<◌, ◌≡◌, true, false, List, ◌∷◌, ◌++◌, length, take, drop, Result, Ok}
 use Rattle.engine.specs.Events.{arrival, renege, Ordered}
 use Rattle.engine.specs.Discrete.{run}
 use Rattle.engine.specs.Demand.{by_events}
@@ -7,6 +7,7 @@ use Rattle.plan.specs.Bytes.{le_at}
 use Rattle.plan.specs.Blocks.{passes, block}
 use Rattle.plan.specs.Places.{vehicle_count}
 use Rattle.files.specs.Read.{read_plan}
+use Rattle.files.specs.Check.{OfFine}
 use Rattle.files.specs.Book.{written}
 use Rattle.files.specs.Call.{totals, book_of}
 use Rattle.dump.specs.EventBlocks.{event_bytes}
@@ -15,11 +16,6 @@ use Rattle.dump.specs.Call.{continued_answer, continued_book}
 use Rattle.late_booking.specs.LongerPlan.{longer}
 use Rattle.late_booking.specs.LateCar.{arrival_in, car_of, with_car}
 use Rattle.plan.specs.declared.answer.Refusal.{Refusal}
-
--- what is said of a booking that was not refused
-abbrev pub OfBooking : Type 0 → Result (Unit {0}) Refusal → Type 0
-OfBooking P (Ok u) = P
-OfBooking P (Err x) = Unit {0}
 
 -- the second list is the first with a and, behind it, b put in
 pub record PutIn {A : Type 0} (a b : A) (old new : List A) : Type 0 where
@@ -36,17 +32,17 @@ module _ (plan dump car : List ℕ) where
   -- busy chargers, sessions and used are the old ones
   abbrev pub RunStands : Result (Unit {0}) Refusal → Type 0
   RunStands =
-      OfBooking
+      OfFine
       (run (read_plan (longer plan car)) (handled_in dump) ≡ with_car (vehicle_count plan) (car_of plan car) (run (read_plan plan) (handled_in dump)))
 
   -- its events stand in the order in which they pop
   abbrev pub InOrder : Result (Unit {0}) Refusal → Type 0
-  InOrder = OfBooking (Ordered (run (read_plan (longer plan car)) (handled_in dump)).site.pending)
+  InOrder = OfFine (Ordered (run (read_plan (longer plan car)) (handled_in dump)).site.pending)
 
   -- one vehicle more is yet to arrive, so the run has not ended; every other count is the old one
   abbrev pub OneMoreToArrive : Result (Unit {0}) Refusal → Type 0
   OneMoreToArrive =
-      OfBooking
+      OfFine
       (let old = totals (by_events (read_plan plan) (handled_in dump)) in
       totals (by_events (read_plan (longer plan car)) (handled_in dump))
       ≡ record {
@@ -66,23 +62,23 @@ module _ (plan dump car : List ℕ) where
     -- it never exceeds 16,384 bytes, and each of its blocks has the check of its place
     abbrev pub WholeDump : Result (Unit {0}) Refusal → Type 0
     WholeDump =
-        OfBooking
+        OfFine
         ((length (dump_of (longer plan car) (handled_in dump)) ≤ 16384)
         × ((k : ℕ) → 512 * k < length (dump_of (longer plan car) (handled_in dump)) → passes (k + 1) (block new k) ≡ true))
 
     -- the header is the old one, but for the count of events at 8 and the check: letters, counts of queued, busy and sessions, used, the
     -- queue and the busy chargers
     abbrev pub HeaderStands : Result (Unit {0}) Refusal → Type 0
-    HeaderStands = OfBooking ((take 8 new ≡ take 8 dump) × (take 498 (drop 10 new) ≡ take 498 (drop 10 dump)))
+    HeaderStands = OfFine ((take 8 new ≡ take 8 dump) × (take 498 (drop 10 new) ≡ take 498 (drop 10 dump)))
 
     -- each session has its old 96 bytes
     abbrev pub SessionsStand : Result (Unit {0}) Refusal → Type 0
-    SessionsStand = OfBooking ((k : ℕ) → k < session_count dump → session_at new k ≡ session_at dump k)
+    SessionsStand = OfFine ((k : ℕ) → k < session_count dump → session_at new k ≡ session_at dump k)
 
     -- the events are the old ones with the car's arrival and renege
     abbrev pub EventsJoined : Result (Unit {0}) Refusal → Type 0
     EventsJoined =
-        OfBooking
+        OfFine
         (let v = vehicle_count plan in
         PutIn (event_bytes plan (arrival (arrival_in car) v)) (event_bytes plan (renege (arrival_in car + le_at 8 car 48) v)) (events_in dump) (events_in new))
 
@@ -91,7 +87,7 @@ module _ (plan dump car : List ℕ) where
     -- continued with the longer plan, in whatever buffers, it has every count and the book of the run that was planned in full
     abbrev pub PlannedInFull : Result (Unit {0}) Refusal → Type 0
     PlannedInFull =
-        OfBooking
+        OfFine
         ((further : ℕ) → further ≤ 10000000 → (book : List ℕ) → 7168 ≤ length book
         → let stop = by_events (read_plan (longer plan car)) (handled_in dump + further) in
         (continued_answer (longer plan car) new further (length book) ≡ Ok (totals stop))

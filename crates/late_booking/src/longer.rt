@@ -3,8 +3,8 @@ ghost use Rattle.std.specs.Prelude.{◌≡◌, ◌+◌, ◌≤◌, ◌<◌, leng
 ghost use Rattle.plan.specs.Places.{vehicle_count};
 ghost use Rattle.late_booking.specs.LongerPlan.{longer};
 
-use plan::blocks::seal;
-use plan::bytes::{put, put_bytes};
+use plan::bytes::put_bytes;
+use plan::header::put_header;
 use plan::places::PlanFile;
 
 // Lays the longer plan into s, and gives its length.
@@ -14,10 +14,8 @@ pub fn put_longer(s: &mut [u8], plan: &PlanFile, car: &[u8; 512]) -> usize
     ensures { (result ≤ length s.new) × (take result s.new ≡ longer plan.now car.now) }
 {
     let n = plan.bytes.len();
-    let vehicles = plan.vehicle_count();
-    put_bytes(s, 0, plan.bytes);
-    put(s, 8, 2, vehicles as u64 + 1);
-    seal(s, 0, 1);
+    put_header(s, plan, plan.vehicle_count() + 1);
+    put_bytes(s, 512, &plan.bytes[512..]);
     put_bytes(s, n, car);
     n + car.len()
 }

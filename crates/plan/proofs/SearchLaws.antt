@@ -124,6 +124,12 @@ first_missed f k (suc m) h j a b = go (f k) refl (λ g q. first_missed f (suc k)
       | inr q ↦ next (omega (arith, rw e at h)) q
     ]
 
+-- and where f holds at no index, it gives the end
+pub first_end : (f : ℕ → Bool) (k m : ℕ) → ((j : ℕ) → k ≤ j → j < k + m → f j ≡ false) → first_index f k m ≡ k + m
+unfolding first_index
+first_end f k zero h = rw add-zero
+first_end f k (suc m) h = rw (h k (omega arith) (omega arith), first_end f (suc k) m (λ j a b. h j (omega arith) (omega arith))) (omega arith)
+
 -- two tests that agree at each index
 pub first_same : (f g : ℕ → Bool) (k m : ℕ) → ((j : ℕ) → k ≤ j → j < k + m → f j ≡ g j) → first_index f k m ≡ first_index g k m
 unfolding first_index

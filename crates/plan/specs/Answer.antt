@@ -5,7 +5,7 @@ use Rattle.plan.specs.declared.answer.Rule.{Rule}
 use Rattle.plan.specs.declared.answer.Rule.TheVariants.{Length, Check, Header, Field, NoPoint, EqualSoc, UsedId, NoProfile}
 use Rattle.plan.specs.declared.answer.Refusal.{Refusal}
 use Rattle.plan.specs.declared.answer.Totals.{Totals}
-use Rattle.plan.specs.declared.answer.Refusal.TheVariants.{EngineAbove, AllowanceAbove, BookUnder, Broken, CannotCharge, DumpUnder, OtherDump, BookDamaged, BookAgainstRules, VehiclesFull, NotLater}
+use Rattle.plan.specs.declared.answer.Refusal.TheVariants.{EngineAbove, AllowanceAbove, BookUnder, Broken, CannotCharge, DumpUnder, OtherDump, BookDamaged, BookAgainstRules, VehiclesFull, NotLater, NoPracticeDay}
 
 -- ---- the number and places of each refusal
 
@@ -31,6 +31,7 @@ number BookDamaged = 15
 number BookAgainstRules = 16
 number VehiclesFull = 17
 number NotLater = 18
+number NoPracticeDay = 19
 
 abbrev pub place : Refusal → ℕ
 place EngineAbove = 0
@@ -44,6 +45,7 @@ place BookDamaged = 0
 place BookAgainstRules = 0
 place VehiclesFull = 0
 place NotLater = 0
+place NoPracticeDay = 0
 
 abbrev pub other_place : Refusal → ℕ
 other_place EngineAbove = 0
@@ -57,6 +59,7 @@ other_place BookDamaged = 0
 other_place BookAgainstRules = 0
 other_place VehiclesFull = 0
 other_place NotLater = 0
+other_place NoPracticeDay = 0
 
 -- ---- the eleven numbers of each answer: number, places, units used, ended, the six counts
 

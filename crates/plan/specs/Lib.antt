@@ -5,5 +5,6 @@ pub mod Blocks
 pub mod Search
 pub mod Places
 pub mod Fields
+pub mod Header
 pub mod Plan
 pub mod Code

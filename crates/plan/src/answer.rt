@@ -18,7 +18,8 @@ pub enum Rule {
 
 // Why a call is refused, in number order: the engine, the allowance, a book that is too short; a rule refuses a block, by its
 // place in the file; a vehicle's block and a charger's cannot charge; a dump that is too short, or not one of the plan; a book
-// whose blocks are damaged, or that is against the rules; a car for which there is no place, or that comes too early to be booked late.
+// whose blocks are damaged, or that is against the rules; a car for which there is no place, or that comes too early to be booked late;
+// what no practice day can be made of.
 #[derive(Clone, Copy, Debug, PartialEq, Eq)]
 pub enum Refusal {
     EngineAbove,
@@ -32,6 +33,7 @@ pub enum Refusal {
     BookAgainstRules,
     VehiclesFull,
     NotLater,
+    NoPracticeDay,
 }
 
 // Units used, ended, and how many vehicles are yet to arrive and queued; how many sessions are open, charged, reneged, balked.
@@ -64,6 +66,7 @@ impl Refusal {
             Refusal::BookAgainstRules => 16,
             Refusal::VehiclesFull => 17,
             Refusal::NotLater => 18,
+            Refusal::NoPracticeDay => 19,
         }
     }
 

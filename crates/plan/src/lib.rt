@@ -5,6 +5,7 @@ pub mod answer;
 pub mod blocks;
 pub mod bytes;
 pub mod fields;
+pub mod header;
 pub mod ids;
 pub mod places;
 pub mod plan;

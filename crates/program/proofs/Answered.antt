@@ -13,7 +13,7 @@ use Rattle.files.specs.Book.{session_count, written}
 use Rattle.files.specs.Demand.{ReadsBack}
 use Rattle.plan.specs.declared.answer.Rule.TheVariants.{Length, Check, Header, Field, NoPoint, EqualSoc, UsedId, NoProfile}
 use Rattle.plan.specs.declared.answer.Refusal.{Refusal}
-use Rattle.plan.specs.declared.answer.Refusal.TheVariants.{EngineAbove, AllowanceAbove, BookUnder, Broken, CannotCharge, DumpUnder, OtherDump, BookDamaged, BookAgainstRules, VehiclesFull, NotLater}
+use Rattle.plan.specs.declared.answer.Refusal.TheVariants.{EngineAbove, AllowanceAbove, BookUnder, Broken, CannotCharge, DumpUnder, OtherDump, BookDamaged, BookAgainstRules, VehiclesFull, NotLater, NoPracticeDay}
 use Rattle.files.proofs.ReadBack.{length_book}
 use Rattle.program.specs.Output.{engine_of, allowance_of, plan_of, line, output_of, output}
 use Rattle.std.specs.Prelude.{Result, Ok, Err}
@@ -48,6 +48,7 @@ refused BookDamaged e = omega arith
 refused BookAgainstRules e = omega arith
 refused VehiclesFull e = omega arith
 refused NotLater e = omega arith
+refused NoPracticeDay e = omega arith
 
 module _ (plan : List ℕ) (engine n : ℕ) (out out' : List ℕ) where
   -- number 0: the book stands in the buffer, and its header tells its length

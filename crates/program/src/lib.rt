@@ -1,12 +1,12 @@
 // What the program writes for an input: an engine byte, a 32-bit allowance and a plan give the book's blocks, or the refusal.
 #![tactic(auto)]
 
-ghost use Rattle.std.specs.Prelude.{◌≡◌, cond, [], ◌∷◌, ◌++◌, ◌+◌, ◌*◌, ◌/◌, ◌≤◌, ◌<◌, ltb, length, take};
+ghost use Rattle.std.specs.Prelude.{◌≡◌, cond, [], ◌∷◌, ◌++◌, ◌+◌, ◌*◌, ◌/◌, ◌≤◌, ◌<◌, ◌^◌, ltb, length, take, drop};
 ghost use Rattle.std.proofs.lemmas.List.Edits.{sets};
 ghost use Rattle.io.specs.Counts.{IsPrefixLen};
 ghost use Rattle.plan.specs.Bytes.{le_at};
 ghost use Rattle.files.specs.Book.{session_count, written};
-ghost use Rattle.program.specs.Output.{allowance_of, plan_of, decimal, line, output};
+ghost use Rattle.program.specs.Output.{decimal, line, output};
 
 use files::call::run;
 use plan::answer::run_numbers;
@@ -19,20 +19,22 @@ fn byte_at(input: &[u8], k: usize) -> u32
     u32::from(input.get(k).copied().unwrap_or(0))
 }
 
-fn allowance_of(input: &[u8]) -> u32
-    ensures { result ≡ allowance_of input.now }
+// The 32-bit number at k; missing bytes are zero.
+pub fn number_at(input: &[u8], k: usize) -> u32
+    requires { k + 3 < 2 ^ 64 }
+    ensures { result ≡ le_at 4 input.now k }
 {
-    byte_at(input, 1)
-        + 256 * byte_at(input, 2)
-        + 65536 * byte_at(input, 3)
-        + 16777216 * byte_at(input, 4)
+    byte_at(input, k)
+        + 256 * byte_at(input, k + 1)
+        + 65536 * byte_at(input, k + 2)
+        + 16777216 * byte_at(input, k + 3)
 }
 
-// What follows the first five bytes.
-fn plan_of(input: &[u8]) -> &[u8]
-    ensures { result.now ≡ plan_of input.now }
+// What follows the first n bytes.
+pub fn behind(input: &[u8], n: usize) -> &[u8]
+    ensures { result.now ≡ drop n input.now }
 {
-    &input[input.len().min(5)..]
+    &input[input.len().min(n)..]
 }
 
 // The bytes of a book's blocks: five sessions a block after the header.
@@ -84,8 +86,8 @@ pub fn reply(input: &[u8], out: &mut [u8; 7168]) -> usize
     ensures text { take result out.new ≡ output input.now }
     ensures whole { out.new ≡ written (output input.now) out.old }
 {
-    let plan = plan_of(input);
-    let answer = run(plan, byte_at(input, 0), allowance_of(input), out);
+    let plan = behind(input, 5);
+    let answer = run(plan, byte_at(input, 0), number_at(input, 1), out);
     let numbers = run_numbers(answer);
     if numbers[0] == 0 {
         return book_length(out);

@@ -7,8 +7,10 @@ use oracle::draft::{Car, Draft, charger, profile};
 use oracle::draw::Draw;
 use oracle::dump::LEAST_DUMP;
 use oracle::share_lists::most_passes;
-use oracle::sides::{OTHER, other_book_late, other_check, other_dump, other_read_book, other_resume, other_run};
-use oracle::{Header, Numbers, Sessions, generate, program};
+use oracle::sides::{
+    OTHER, other_book_late, other_check, other_dump, other_practice, other_read_book, other_resume, other_run,
+};
+use oracle::{Header, LEAST_DAY, Numbers, Sessions, generate, program};
 use original::shares::kilowatts;
 use std::hint::black_box;
 
@@ -36,6 +38,8 @@ enum Call {
     BookLate(u32),
     /// The book of the run by events.
     ReadBook,
+    /// Of so many cars.
+    Practice(u32),
 }
 
 enum Per {
@@ -50,6 +54,7 @@ struct Side {
     resume: fn(&[u8], &[u8], u32, &mut [u8]) -> Numbers,
     book_late: fn(&[u8], &[u8], &[u8], &mut [u8]) -> Numbers,
     read_book: fn(&[u8], &mut Header, &mut Sessions) -> Numbers,
+    practice: fn(&[u8], u32, u32, &mut [u8]) -> Numbers,
 }
 
 const SIDES: [Side; 2] = [
@@ -60,6 +65,7 @@ const SIDES: [Side; 2] = [
         resume: oracle::resume,
         book_late: oracle::book_late,
         read_book: oracle::read_book,
+        practice: oracle::practice,
     },
     Side {
         check: other_check,
@@ -68,6 +74,7 @@ const SIDES: [Side; 2] = [
         resume: other_resume,
         book_late: other_book_late,
         read_book: other_read_book,
+        practice: other_practice,
     },
 ];
 const MOST: u32 = 10_000_000;
@@ -126,6 +133,7 @@ struct Lent {
     new_dump: Vec<u8>,
     header: Header,
     sessions: Sessions,
+    day: Vec<u8>,
 }
 
 impl Lent {
@@ -138,8 +146,8 @@ impl Lent {
             Call::ReadBook => book = program::output(&program::input(0, MOST, &work.plan)).0,
             _ => {}
         }
-        let new_dump = vec![0; LEAST_DUMP];
-        Self { book, dump, car: late_car(&work.plan), new_dump, header: [0; 4], sessions: [0; 1024] }
+        let (new_dump, day) = (vec![0; LEAST_DUMP], vec![0; LEAST_DAY]);
+        Self { book, dump, car: late_car(&work.plan), new_dump, header: [0; 4], sessions: [0; 1024], day }
     }
 
     fn call(&mut self, side: &Side, work: &Work) -> Numbers {
@@ -154,6 +162,7 @@ impl Lent {
                 (side.book_late)(plan, dump, car, black_box(&mut self.new_dump))
             }
             Call::ReadBook => (side.read_book)(book, black_box(&mut self.header), black_box(&mut self.sessions)),
+            Call::Practice(count) => (side.practice)(plan, 1, count, black_box(&mut self.day)),
         }
     }
 }
@@ -267,6 +276,10 @@ fn works() -> Vec<Work> {
     }
     for (sessions, plan) in [("64 sessions", busy_site(2)), ("one session", bay(&[Car::default()]).bytes())] {
         works.push(Work { name: format!("read a book of {sessions}"), plan, call: Call::ReadBook, per: Per::Call });
+    }
+    for (cars, count) in [("64 cars", 64), ("one car", 1)] {
+        let (name, plan) = (format!("practice day of {cars}: one charger"), steady(1, 1, false, false));
+        works.push(Work { name, plan, call: Call::Practice(count), per: Per::Call });
     }
     works.push(Work { name: "check of a largest plan".into(), plan: largest(), call: Call::Check, per: Per::Call });
     works.push(Work {

@@ -7,8 +7,9 @@
 //! `--dumps` compares request 1's calls, dump and continue, at every cut of each case's run by events.
 //! `--books` compares request 5's call on books of drawn lists and of runs, and on damaged ones.
 //! `--late` compares request 7's call, a late booking, at cuts of each case's run by events.
+//! `--practice` compares request 11's call, a practice day, and check and run of the days that are written.
 //! `--shares` compares a program that shares lists of requests, request 10's shares by themselves, on drawn lists.
-//! `--sweep` damages a small plan, or book, or the block of a late car, at every byte in place of drawn cases.
+//! `--sweep` damages a small plan, or book, the block of a late car or a plan of one vehicle, at every byte in place of drawn cases.
 //! `--trace` names each case on standard error before it runs, for a side that may crash or hang.
 use oracle::arguments::Words;
 use oracle::both::Tally;
@@ -17,14 +18,14 @@ use oracle::generate::{self, Case, SHAPES};
 use oracle::share_lists::List;
 use oracle::shrink::shrink;
 use oracle::sides::{OTHER, Side, difference_on_input, output_of};
-use oracle::{blocks, books, late, program, share_lists, words};
+use oracle::{blocks, books, days, late, program, share_lists, words};
 use std::collections::BTreeMap;
 use std::ops::Range;
 use std::path::{Path, PathBuf};
 use std::process::ExitCode;
 use std::time::Instant;
 
-const USAGE: &str = "compare [--cases N] [--seed S] [--from INDEX] [--shape NAME] [--dumps | --books | --late | --shares PATH | --program PATH] [--sweep] [--count] [--trace]";
+const USAGE: &str = "compare [--cases N] [--seed S] [--from INDEX] [--shape NAME] [--dumps | --books | --late | --practice | --shares PATH | --program PATH] [--sweep] [--count] [--trace]";
 
 struct Options {
     cases: u64,
@@ -35,6 +36,7 @@ struct Options {
     dumps: bool,
     books: bool,
     late: bool,
+    practice: bool,
     shares: Option<PathBuf>,
     sweep: bool,
     count: bool,
@@ -51,6 +53,7 @@ fn options() -> Options {
         dumps: false,
         books: false,
         late: false,
+        practice: false,
         shares: None,
         sweep: false,
         count: false,
@@ -67,6 +70,7 @@ fn options() -> Options {
             "--dumps" => options.dumps = true,
             "--books" => options.books = true,
             "--late" => options.late = true,
+            "--practice" => options.practice = true,
             "--shares" => options.shares = Some(words.needed("PATH").into()),
             "--sweep" => options.sweep = true,
             "--count" => options.count = true,
@@ -74,9 +78,10 @@ fn options() -> Options {
             _ => words.wrong(format!("{word} is unknown")),
         }
     }
-    let ways = [options.dumps, options.books, options.late, options.shares.is_some(), options.program.is_some()];
-    if ways.into_iter().filter(|given| *given).count() > 1 {
-        words.wrong("--dumps, --books, --late, --shares and --program are compared one at a time");
+    let by_call = [options.dumps, options.books, options.late, options.practice];
+    let by_program = [options.shares.is_some(), options.program.is_some()];
+    if by_call.into_iter().chain(by_program).filter(|given| *given).count() > 1 {
+        words.wrong("--dumps, --books, --late, --practice, --shares and --program are compared one at a time");
     }
     if options.books && options.shape.is_some() {
         words.wrong("--books has cases of every shape");
@@ -104,13 +109,17 @@ fn main() -> ExitCode {
         return compare_shares(&options, path);
     }
     if options.late && options.sweep {
-        return sweep_late(&options);
+        return sweep_steps(&options, late::steps(), late::swept);
+    }
+    if options.practice && options.sweep {
+        return sweep_steps(&options, days::steps(), days::swept);
     }
     let started = Instant::now();
     let side = match &options.program {
         Some(path) => Side::Program(path.clone()),
         None if options.dumps => Side::Dumps(Default::default()),
         None if options.late => Side::Late(Default::default()),
+        None if options.practice => Side::Practice(Default::default()),
         None => Side::Linked,
     };
     let name = options.program.as_ref().map_or(OTHER.to_string(), |path| path.display().to_string());
@@ -150,7 +159,7 @@ fn main() -> ExitCode {
         *answers.entry(oracle::check(&case.plan)[0]).or_insert(0) += 1;
     }
     let mut answers = format!("answers of check by number: {}", by_number(&answers));
-    if let Side::Dumps(tally) | Side::Late(tally) = &side {
+    if let Side::Dumps(tally) | Side::Late(tally) | Side::Practice(tally) = &side {
         answers += &format!("\n{}", of_calls(&tally.borrow()));
     }
     summed_up(compared, different, started, &answers)
@@ -158,7 +167,13 @@ fn main() -> ExitCode {
 
 /// The answers of each call that was made.
 fn of_calls(tally: &Tally) -> String {
-    let calls = [("dump", &tally.dumps), ("late booking", &tally.booked), ("continue", &tally.continued)];
+    let calls = [
+        ("dump", &tally.dumps),
+        ("late booking", &tally.booked),
+        ("continue", &tally.continued),
+        ("practice day", &tally.practised),
+        ("check of a day", &tally.days),
+    ];
     let made = calls.into_iter().filter(|(_, answers)| !answers.is_empty());
     let answers: Vec<String> = made.map(|(name, answers)| format!("of {name}: {}", by_number(answers))).collect();
     answers.join("; ")
@@ -189,10 +204,10 @@ fn compare_books(options: &Options) -> ExitCode {
     by_index(options, indices, &mut tally, differs, |tally| format!("answers by number: {}", by_number(tally)))
 }
 
-/// Request 7 on one small plan, with every byte of the car.
-fn sweep_late(options: &Options) -> ExitCode {
-    let differs = |index, tally: &mut Tally| late::swept(options.seed, index, tally);
-    by_index(options, 0..late::steps(), &mut Tally::default(), differs, of_calls)
+/// Request 7 or 11 on one small plan, with every byte of the car or of the plan.
+fn sweep_steps(options: &Options, steps: u64, swept: fn(u64, u64, &mut Tally) -> Option<String>) -> ExitCode {
+    let differs = |index, tally: &mut Tally| swept(options.seed, index, tally);
+    by_index(options, 0..steps, &mut Tally::default(), differs, of_calls)
 }
 
 /// So many lists fit the program's buffer, whatever their lengths.
@@ -257,7 +272,9 @@ fn by_number(answers: &BTreeMap<u64, u64>) -> String {
 fn report(side: &Side, index: u64, case: Case, what: &str) {
     // Dumps are of the run by events, whatever the case's own engine.
     let described = |case: &Case| match side {
-        Side::Dumps(_) | Side::Late(_) => words::describe(&Case { engine: 0, allowance: 10_000_000, ..case.clone() }),
+        Side::Dumps(_) | Side::Late(_) | Side::Practice(_) => {
+            words::describe(&Case { engine: 0, allowance: 10_000_000, ..case.clone() })
+        }
         _ => words::describe(case),
     };
     println!("DIFFERENCE in case {index}: {what}\n{}", described(&case));

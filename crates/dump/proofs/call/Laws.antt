@@ -22,7 +22,8 @@ use Rattle.files.specs.Read.{chargers_of, charger_of}
 use Rattle.plan.specs.Places.{charger_block, charger_count}
 use Rattle.plan.proofs.SearchLaws.{length-each}
 use Rattle.files.specs.Demand.{OfRun}
-use Rattle.files.proofs.call.RunLaws.{runnable, as_counted, writable}
+use Rattle.files.proofs.Accepted.{counted}
+use Rattle.files.proofs.call.RunLaws.{runnable, writable}
 use Rattle.files.proofs.call.BookDemand.{few_sessions}
 use Rattle.files.specs.Code.Writing.{Writable}
 use Rattle.files.proofs.call.Demanded.{Runs, answered}
@@ -54,7 +55,7 @@ module _ {plan : List ℕ} {site : Site} (l : Loaded plan site) (state : State) 
 
   few_chargers : length p.chargers ≤ 32
   unfolding chargers_of
-  few_chargers = omega (arith, ap (λ (q : Plan). length q.chargers) l.read, length-each (λ (i : ℕ). charger_of (charger_block plan i)) 0 (charger_count plan), (as_counted plan l.admitted).chargers)
+  few_chargers = omega (arith, ap (λ (q : Plan). length q.chargers) l.read, length-each (λ (i : ℕ). charger_of (charger_block plan i)) 0 (charger_count plan), (counted plan l.admitted).chargers)
 
   few_booked : length (booked state.simulation.sessions) ≤ 64
   few_booked = omega (arith, few_sessions plan 0 n l.admitted, ap (λ (s : D.State). length s.site.sessions) (same ∙ ap (λ (q : Plan). D.run q n) l.read))
@@ -62,7 +63,7 @@ module _ {plan : List ℕ} {site : Site} (l : Loaded plan site) (state : State) 
   pub dumpable : Dumpable plan site state
   dumpable =
       record {
-        counted = as_counted plan l.admitted;
+        counted = counted plan l.admitted;
         vehicles = ap (λ (q : Plan). q.vehicles) l.read;
         connectors = ap (λ (q : Plan). q.connectors) l.read;
         sessions = few_booked;

@@ -38,7 +38,7 @@ use Rattle.plan.proofs.SearchLaws.{first_missed, length-each, each_at}
 use Rattle.plan.proofs.blocks.Laws.{block_read}
 use Rattle.plan.proofs.bytes.Laws.{Begins, le_at-drop}
 use Rattle.files.proofs.ReadBack.{book_session_at, count-written}
-use Rattle.files.proofs.read.Accepted.{counted, vehicle_rule, kind_vehicle}
+use Rattle.files.proofs.Accepted.{counted, vehicle_rule, kind_vehicle}
 use Rattle.std.specs.Prelude.{Ok}
 
 pub vehicle-count : (plan : List ℕ) → length (vehicles_of plan) ≡ vehicle_count plan

@@ -37,7 +37,7 @@ use Rattle.files.specs.Book.{session_count, book_offset, sessions_in}
 use Rattle.files.specs.Call.{stop_of}
 use Rattle.files.specs.Fleets.{fleet_of, queue_places_at}
 use Rattle.files.proofs.SessionsIn.{in_book}
-use Rattle.files.proofs.read.Accepted.{vehicle_tests_lem}
+use Rattle.files.proofs.Accepted.{vehicle_tests_lem}
 use Rattle.files.proofs.call.BookDemand.{vehicle-count, same_id, said_at, length_said}
 use Rattle.std.specs.Prelude.{Ok}
 

@@ -31,7 +31,7 @@ use Rattle.files.specs.Check.{check_plan}
 use Rattle.files.specs.HotDay.{HotDayOfPlan, ByRating}
 use Rattle.files.specs.declared.book_session.BookSession.{BookSession}
 use Rattle.plan.proofs.SearchLaws.{length-each}
-use Rattle.files.proofs.read.Accepted.{profiles_named}
+use Rattle.files.proofs.Accepted.{profiles_named}
 use Rattle.charger.specs.Leads.{ChargerWithin}
 use Rattle.files.proofs.read.Within.{VehicleWithin, vehicles-within, chargers_within, battery_within, points-within}
 use Rattle.files.proofs.check.PairLaws.{plan_fine, charged_in_time}

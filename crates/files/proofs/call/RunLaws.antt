@@ -30,17 +30,13 @@ use Rattle.files.specs.declared.engines.Engine.{Engine}
 use Rattle.files.specs.declared.engines.Engine.TheVariants.{Events, Steps}
 use Rattle.files.specs.Check.{check_plan}
 use Rattle.plan.specs.declared.answer.Refusal.TheVariants.{EngineAbove, AllowanceAbove, BookUnder}
-use Rattle.files.proofs.read.Accepted.{counted, in_time, profiles_named}
+use Rattle.files.proofs.Accepted.{counted, in_time, profiles_named}
 use Rattle.files.proofs.read.Within.{points-within}
 use Rattle.std.specs.Prelude.{Result, Ok, Err}
 use Rattle.plan.specs.declared.answer.Refusal.{Refusal}
 use Rattle.plan.specs.declared.answer.Totals.{Totals}
 
 -- ---- what the plan's checks give
-
--- for the crates above, which cannot name where it stands
-pub as_counted : (plan : List ℕ) → Admitted plan → Counted plan
-as_counted = counted
 
 module _ {plan : List ℕ} {site : Site} (l : Loaded plan site) where
   vehicles_read : vehicles_of plan ≡ listed site.vehicles

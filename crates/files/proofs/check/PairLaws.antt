@@ -19,7 +19,7 @@ use Rattle.files.specs.Pairs.{fails_at, failing_charger, fails_somewhere, failin
 use Rattle.plan.proofs.SearchLaws.{first_holds, first_missed, length-each}
 use Rattle.plan.specs.Plan.{check_blocks}
 use Rattle.files.specs.Check.{pair_answer, then_check, check_plan, AllSealed}
-use Rattle.files.proofs.read.Accepted.{sealed-block}
+use Rattle.files.proofs.Accepted.{sealed-block}
 use Rattle.std.specs.Prelude.{Option, Some, None, Result, Ok, Err}
 use Rattle.plan.specs.declared.answer.Refusal.{Refusal}
 

@@ -26,7 +26,7 @@ use Rattle.charger.proofs.Lists.{and_true}
 use Rattle.plan.proofs.fields.Laws.{zeros_hold}
 use Rattle.plan.proofs.SearchLaws.{every_at, length-each, each_at, all_each}
 use Rattle.plan.proofs.blocks.Laws.{block_read}
-use Rattle.files.proofs.read.Accepted.{vehicle_tests_lem, charger_tests_lem, profile_tests_lem, header_tests_lem}
+use Rattle.files.proofs.Accepted.{vehicle_tests_lem, charger_tests_lem, profile_tests_lem, header_tests_lem}
 use Rattle.std.specs.Prelude.{Ok}
 
 pub record VehicleWithin (x : Vehicle) : Type 0 where

@@ -27,12 +27,12 @@ use Rattle.plan.specs.declared.answer.Refusal.TheVariants.{Broken, DumpUnder, Ot
 use Rattle.plan.proofs.bytes.Laws.{Begins}
 use Rattle.files.specs.Read.{read_plan, vehicle_of}
 use Rattle.files.specs.BookSession.{book_sessions}
-use Rattle.files.specs.Check.{then_check, check_plan}
+use Rattle.files.specs.Check.{then_check, OfFine, check_plan}
 use Rattle.files.specs.Book.{written}
 use Rattle.files.specs.Call.{totals}
 use Rattle.files.specs.Code.Reading.{Counted}
 use Rattle.files.proofs.check.PairLaws.{plan_fine}
-use Rattle.files.proofs.call.RunLaws.{as_counted}
+use Rattle.files.proofs.Accepted.{counted}
 use Rattle.files.proofs.call.BookDemand.{vehicle-count, few_sessions, length_said}
 use Rattle.dump.specs.EventBlocks.{event_bytes}
 use Rattle.dump.specs.Dump.{dump_bytes, dump_of, handled_in, is_dump, events_in, session_count, session_at}
@@ -44,7 +44,7 @@ use Rattle.dump.proofs.dump.ReadBack.{events_read, session_count_lem, session_re
 use Rattle.late_booking.specs.LongerPlan.{longer}
 use Rattle.late_booking.specs.LateCar.{arrival_in, car_of, is_later, joined, with_car}
 use Rattle.late_booking.specs.Call.{booking_answer, late_answer, dumped_after}
-use Rattle.late_booking.specs.Stands.{OfBooking, RunStands, InOrder, OneMoreToArrive, WholeDump, HeaderStands, SessionsStand, EventsJoined, PlannedInFull}
+use Rattle.late_booking.specs.Stands.{RunStands, InOrder, OneMoreToArrive, WholeDump, HeaderStands, SessionsStand, EventsJoined, PlannedInFull}
 use Rattle.late_booking.proofs.longer.Reading.{longer_read}
 use Rattle.late_booking.proofs.longer.Dumped.{same_sessions, same_event, same_queue, same_busy}
 use Rattle.late_booking.proofs.late.Pushes.{put_in, put_in_map}
@@ -68,19 +68,19 @@ unbooked plan dump car new x = record { stands = tt; order = tt; counts = tt; wh
 
 -- ---- what is known of a booking that was not refused
 
-of_test : (P : Type 0) (t : Bool) (x : Refusal) (next : Result (Unit {0}) Refusal) → (t ≡ false → OfBooking P next) → OfBooking P (cond t (Err x) next)
+of_test : (P : Type 0) (t : Bool) (x : Refusal) (next : Result (Unit {0}) Refusal) → (t ≡ false → OfFine P next) → OfFine P (cond t (Err x) next)
 of_test P true x next h = tt
 of_test P false x next h = h refl
 
-of_check : (P : Type 0) (a next : Result (Unit {0}) Refusal) → (a ≡ Ok tt → OfBooking P next) → OfBooking P (then_check a next)
+of_check : (P : Type 0) (a next : Result (Unit {0}) Refusal) → (a ≡ Ok tt → OfFine P next) → OfFine P (then_check a next)
 of_check P (Ok u) next h = h refl
 of_check P (Err x) next h = tt
 
-of_last : (P : Type 0) (a : Result (Unit {0}) Refusal) → (a ≡ Ok tt → P) → OfBooking P a
+of_last : (P : Type 0) (a : Result (Unit {0}) Refusal) → (a ≡ Ok tt → P) → OfFine P a
 of_last P (Ok u) h = h refl
 of_last P (Err x) h = tt
 
-of_both : {P Q R : Type 0} → (P → Q → R) → (r : Result (Unit {0}) Refusal) → OfBooking P r → OfBooking Q r → OfBooking R r
+of_both : {P Q R : Type 0} → (P → Q → R) → (r : Result (Unit {0}) Refusal) → OfFine P r → OfFine Q r → OfFine R r
 of_both f (Ok u) p q = f p q
 of_both f (Err x) p q = tt
 
@@ -92,7 +92,7 @@ pub record Booking (plan dump car : List ℕ) : Type 0 where
   pub longer_fine : check_plan (longer plan car) ≡ Ok tt
 
 module _ (plan dump car : List ℕ) (space : ℕ) where
-  known : OfBooking (Booking plan dump car) (late_answer plan dump car space)
+  known : OfFine (Booking plan dump car) (late_answer plan dump car space)
   unfolding late_answer booking_answer
   known =
       let P = Booking plan dump car in
@@ -159,8 +159,8 @@ module _ (plan dump car : List ℕ) (k : Booking plan dump car) where
   long_fine : check_blocks (longer plan car) ≡ Ok tt
   long_fine = (plan_fine (longer plan car) k.longer_fine).0
 
-  counted : Counted plan
-  counted = as_counted plan fine
+  sized : Counted plan
+  sized = counted plan fine
 
   own_count : (run p n).handled ≡ n
   own_count = reached plan fine dump k.own
@@ -168,7 +168,7 @@ module _ (plan dump car : List ℕ) (k : Booking plan dump car) where
   stands : run (read_plan (longer plan car)) n ≡ with_car (vehicle_count plan) x (run p n)
   unfolding vehicle_of
   stands =
-      ap (λ (q : Plan). run q n) (longer_read plan car counted k.one)
+      ap (λ (q : Plan). run q n) (longer_read plan car sized k.one)
       ∙ run_stands p x n own_count k.later
       ∙ ap (λ (v : ℕ). with_car v x (run p n)) (vehicle-count plan)
 
@@ -192,7 +192,7 @@ module _ (plan dump car : List ℕ) (k : Booking plan dump car) where
   few_booked = omega (arith, few_sessions plan 0 n fine)
 
   same_booked : book_sessions (longer plan car) (run p n).site.sessions ≡ book_sessions plan (run p n).site.sessions
-  same_booked = same_sessions plan car counted (run p n).site.sessions (rw (vehicle-count plan) at (sessions_in_lem p n))
+  same_booked = same_sessions plan car sized (run p n).site.sessions (rw (vehicle-count plan) at (sessions_in_lem p n))
 
   module _ (new rest : List ℕ) (w : new ≡ dump_of (longer plan car) n ++ rest) where
     -- the new dump is that of the state with the car yet to arrive
@@ -215,7 +215,7 @@ module _ (plan dump car : List ℕ) (k : Booking plan dump car) where
         let now = ap tail shown ∙ behind_events (longer plan car) s rest few_joined in
         let was = ap tail old.1 ∙ behind_events plan (run p n) old.0 few_pending in (
           ap (take 8) shown ∙ before_events (longer plan car) s rest few_joined ∙ sym (ap (take 8) old.1 ∙ before_events plan (run p n) old.0 few_pending),
-          rw (now, was, same_queue plan car counted (run p n).site.queue, same_busy plan car counted 0 (run p n).site.places),
+          rw (now, was, same_queue plan car sized (run p n).site.queue, same_busy plan car sized 0 (run p n).site.places),
         )
 
     sessions : SessionsStand plan dump car new (Ok tt)
@@ -234,7 +234,7 @@ module _ (plan dump car : List ℕ) (k : Booking plan dump car) where
         let r = renege (x.arrival + x.wait) (vehicle_count plan) in
         let es = (run p n).site.pending in
         let was : events_in dump ≡ map (event_bytes plan) es = ap events_in old.1 ∙ events_read plan (run p n) old.0 few_pending in
-        let same : event_bytes (longer plan car) ≡ event_bytes plan = fun_ext (same_event plan car counted) in
+        let same : event_bytes (longer plan car) ≡ event_bytes plan = fun_ext (same_event plan car sized) in
         let is : events_in new ≡ map (event_bytes plan) (push r (push a es)) =
         ap events_in shown ∙ events_read (longer plan car) (with_car (vehicle_count plan) x (run p n)) rest few_joined ∙ ap (λ (f : Event → List ℕ). map f (push r (push a es))) same in
         rw (was, is) (put_in_map (event_bytes plan) a r es (push r (push a es)) (put_in a r es (arrival-first x.arrival x.wait (vehicle_count plan))))
@@ -248,7 +248,7 @@ module _ (plan dump car : List ℕ) (k : Booking plan dump car) where
 
 -- what the call leaves where it does not refuse
 left : (plan dump car buffer new : List ℕ) (r : Result (Unit {0}) Refusal) → new ≡ dumped_after (longer plan car) (handled_in dump) r buffer
-    → OfBooking (new ≡ dump_of (longer plan car) (handled_in dump) ++ drop (length (dump_of (longer plan car) (handled_in dump))) buffer) r
+    → OfFine (new ≡ dump_of (longer plan car) (handled_in dump) ++ drop (length (dump_of (longer plan car) (handled_in dump))) buffer) r
 unfolding written
 left plan dump car buffer new (Ok u) e = e
 left plan dump car buffer new (Err x) e = tt
@@ -256,10 +256,10 @@ left plan dump car buffer new (Err x) e = tt
 pub booked : (plan dump car buffer new : List ℕ) (r : Result (Unit {0}) Refusal) → r ≡ late_answer plan dump car (length buffer) → new ≡ dumped_after (longer plan car) (handled_in dump) r buffer
     → LatePromises plan dump car new r
 booked plan dump car buffer new r e b =
-    promises r (subst (OfBooking (Booking plan dump car)) (sym e) (known plan dump car (length buffer))) (left plan dump car buffer new r b)
+    promises r (subst (OfFine (Booking plan dump car)) (sym e) (known plan dump car (length buffer))) (left plan dump car buffer new r b)
   where
-    promises : (r : Result (Unit {0}) Refusal) → OfBooking (Booking plan dump car) r
-        → OfBooking (new ≡ dump_of (longer plan car) (handled_in dump) ++ drop (length (dump_of (longer plan car) (handled_in dump))) buffer) r → LatePromises plan dump car new r
+    promises : (r : Result (Unit {0}) Refusal) → OfFine (Booking plan dump car) r
+        → OfFine (new ≡ dump_of (longer plan car) (handled_in dump) ++ drop (length (dump_of (longer plan car) (handled_in dump))) buffer) r → LatePromises plan dump car new r
     promises (Ok u) k w =
         record {
           stands = stands plan dump car k;

@@ -23,7 +23,8 @@ use Rattle.files.specs.Read.{no_battery, curve_of_profile, battery_of, charger_o
 use Rattle.files.specs.Code.Reading.{Counted}
 use Rattle.late_booking.specs.LongerPlan.{longer}
 use Rattle.late_booking.specs.LateCar.{car_of, with_vehicle}
-use Rattle.late_booking.proofs.longer.Bytes.{first-fields, raised-count, later_fields, rest_of}
+use Rattle.plan.proofs.header.Laws.{later_byte, vehicles_counted, first_fields, later_fields}
+use Rattle.late_booking.proofs.longer.Bytes.{rest_of}
 
 -- the branch that is taken is the same
 pub cond_same : {A : Type 0} (t : Bool) {x y : A} (z : A) → (t ≡ true → x ≡ y) → cond t x z ≡ cond t y z
@@ -36,25 +37,31 @@ module _ (plan car : List ℕ) (c : Counted plan) where
 
   -- ---- the header
 
+  abbrev v : ℕ
+  v = vehicle_count plan + 1
+
+  abbrev rest : List ℕ
+  rest = drop 512 plan ++ car
+
   pub same_profiles : profile_count (longer plan car) ≡ profile_count plan
-  same_profiles = first-fields plan car long 2 4 (omega arith)
+  unfolding longer
+  same_profiles = first_fields v plan long rest 2 4 (omega arith)
 
   pub same_chargers : charger_count (longer plan car) ≡ charger_count plan
-  same_chargers = first-fields plan car long 2 6 (omega arith)
+  unfolding longer
+  same_chargers = first_fields v plan long rest 2 6 (omega arith)
 
   pub one_more : vehicle_count (longer plan car) ≡ vehicle_count plan + 1
-  one_more = raised-count plan car long (omega (arith, c.vehicles))
+  unfolding longer
+  one_more = vehicles_counted v plan long rest (omega (arith, c.vehicles))
 
   pub same_limit : limit_of (longer plan car) ≡ limit_of plan
-  unfolding limit_of
-  same_limit = rw (later_fields plan car long 1 2 (omega arith), later_fields plan car long 8 6 (omega arith))
+  unfolding longer limit_of
+  same_limit = rw (later_fields v plan long rest 1 12 (omega arith) (omega arith), later_fields v plan long rest 8 16 (omega arith) (omega arith))
 
   pub same_queue_places : queue_places_of (longer plan car) ≡ queue_places_of plan
-  unfolding queue_places_of le_at
-  same_queue_places =
-      each_same _ _ 0 64 (λ k a b.
-      let e : 10 + (14 + k) ≡ 24 + k = omega arith in
-      omega (arith, rw e at (later_fields plan car long 1 (14 + k) (omega arith))))
+  unfolding longer queue_places_of
+  same_queue_places = each_same _ _ 0 64 (λ k a b. later_byte v plan long rest (24 + k) (omega arith) (omega arith))
 
   -- ---- the blocks
 

@@ -50,6 +50,12 @@ unfolding le_at
 le_at-take zero m s at h = refl
 le_at-take (suc n) m s at h = rw (get_or-take m s at 0 (omega arith), le_at-take n m s (suc at) (omega arith))
 
+-- a number of bytes that are the same
+pub le_at-same : (n : ℕ) (a b : List ℕ) (at : ℕ) → ((k : ℕ) → at ≤ k → k < at + n → get_or a k 0 ≡ get_or b k 0) → le_at n a at ≡ le_at n b at
+unfolding le_at
+le_at-same zero a b at h = refl
+le_at-same (suc n) a b at h = rw (h at (omega arith) (omega arith), le_at-same n a b (suc at) (λ k l m. h k (omega arith) (omega arith)))
+
 -- a number of zero bytes is 0
 pub le_at_zero : (n : ℕ) (s : List ℕ) (at : ℕ) → ((k : ℕ) → at ≤ k → k < at + n → get_or s k 0 ≡ 0) → le_at n s at ≡ 0
 unfolding le_at
@@ -112,6 +118,10 @@ stored_at s new row at h e =
 pub sets_append : (l : List ℕ) (i : ℕ) (a b : List ℕ) → sets l i (a ++ b) ≡ sets (sets l i a) (i + length a) b
 sets_append l i [] b = rw add-zero
 sets_append l i (x ∷ a) b = rw (sets_append (set l i x) (suc i) a b, suc-add, ← add-suc)
+
+-- what is stored behind what was stored
+pub sets_behind : (s t u x y : List ℕ) (at next : ℕ) → t ≡ sets s at x → next ≡ at + length x → u ≡ sets t next y → u ≡ sets s at (x ++ y)
+sets_behind s t u x y at next p e q = rw (q, p, e, sets_append s at x y)
 
 -- ---- fields, one after the other
 

@@ -1,10 +1,16 @@
 -- Laws of the fields' tests.
-use Rattle.std.proofs.Common.{◌≡◌, ℕ, zero, suc, ◌+◌, ◌-◌, ◌<◌, ◌≤◌, true, ◌&&◌, leb, List, ◌++◌, length, get_or, take, drop, refl, arith, get_or-drop, get_or-append-add, leb-true}
+use Rattle.std.proofs.Common.{◌≡◌, ℕ, zero, suc, ◌+◌, ◌-◌, ◌<◌, ◌≤◌, true, ◌&&◌, leb, List, ◌++◌, length, get_or, take, drop, refl, ap, arith, get_or-drop, get_or-append-add, leb-true}
 use Rattle.charger.proofs.Lists.{and_true}
 use Rattle.plan.specs.Bytes.{le_at, bytes}
 use Rattle.plan.specs.Fields.{bytes_in, zeros}
-use Rattle.plan.proofs.SearchLaws.{every_at, every_of}
+use Rattle.plan.proofs.SearchLaws.{every_at, every_of, every_same}
 use Rattle.plan.proofs.bytes.Laws.{le_at_zero, bytes-le_at}
+
+-- bytes that are the same pass the same tests
+pub bytes_in-same : (b c : List ℕ) (from to lo hi : ℕ) → ((k : ℕ) → from ≤ k → k < to → get_or b k 0 ≡ get_or c k 0) → bytes_in b from to lo hi ≡ bytes_in c from to lo hi
+unfolding bytes_in
+bytes_in-same b c from to lo hi h =
+    every_same _ _ from (to - from) (λ k l m. ap (λ (x : ℕ). leb lo x && leb x hi) (h k l (omega arith)))
 
 -- each byte of a run of zero bytes
 pub zero_byte : (b : List ℕ) (from to k : ℕ) → zeros b from to ≡ true → from ≤ k → k < to → get_or b k 0 ≡ 0

@@ -1,5 +1,5 @@
 -- Laws of the kinds of a plan's blocks and of the table of refusals. Assumes nothing.
-use Rattle.std.proofs.Common.{◌≡◌, ℕ, zero, suc, ◌+◌, ◌*◌, ◌<◌, ◌≤◌, Bool, true, false, cond, not, Some, None, Result, Err, List, length, get_or, take, drop, sym, refl, ◌∙◌, inl, inr, zero-add, add-one, length-take-le, get_or-take, arith, eqb, eq-eqb, ne_eqb, eq-or-lt_of_le, drop-cons, le-ltb, lt-ltb, le-leb}
+use Rattle.std.proofs.Common.{◌≡◌, ℕ, zero, suc, ◌+◌, ◌*◌, ◌<◌, ◌≤◌, Bool, true, false, cond, not, Some, None, Result, Ok, Err, List, [], ◌∷◌, ltb, length, get_or, take, drop, sym, refl, ◌∙◌, inl, inr, zero-add, add-one, length-take-le, get_or-take, arith, eqb, eq-eqb, ne_eqb, eq-or-lt_of_le, drop-cons, le-ltb, lt-ltb, le-leb}
 use lib.Dec.{eqb-suc-zero}
 use lib.Ieee.{Float, nan}
 use Rattle.plan.specs.Bytes.{le_at}
@@ -17,7 +17,7 @@ use Rattle.plan.specs.declared.answer.Rule.{Rule}
 use Rattle.plan.specs.declared.answer.Rule.TheVariants.{Length}
 use Rattle.plan.specs.declared.answer.Refusal.{Refusal}
 use Rattle.plan.specs.declared.answer.Refusal.TheVariants.{Broken}
-use Rattle.plan.proofs.SearchLaws.{every_same, each_at}
+use Rattle.plan.proofs.SearchLaws.{every_same, each_at, first_end}
 
 -- the vehicles come after the profiles
 pub no_vehicle_lem : (plan : List ℕ) (k : ℕ) → k < 1 + le_at 2 plan 4 → is_vehicle (kind_at plan k) ≡ false
@@ -82,3 +82,11 @@ module _ (rs : List Rule) (plan : List ℕ) (n i : ℕ) (r : Rule) (h : i < leng
   pub refusal_miss : short_of (first_index (broken r plan) 0 n) n ≡ None → first_refusal (drop i rs) plan n ≡ first_refusal (drop (i + 1) rs) plan n
   unfolding first_refusal
   refusal_miss e = rw (drop-cons rs i Length h, ← p, add-one i) (miss _ _ _ e)
+
+-- no rule refuses one of the n blocks: the table has no refusal
+pub none_refused : (rs : List Rule) (plan : List ℕ) (n : ℕ) → ((r : Rule) (k : ℕ) → k < n → broken r plan k ≡ false) → first_refusal rs plan n ≡ Ok tt
+unfolding first_refusal
+none_refused [] plan n h = refl
+none_refused (r ∷ rs) plan n h =
+    let past : ltb (first_index (broken r plan) 0 n) n ≡ false = le-ltb _ n (omega (arith, first_end (broken r plan) 0 n (λ k a b. h r k (omega arith)))) in
+    rw past (none_refused rs plan n h)

@@ -11,7 +11,7 @@ use Rattle.program.proofs.reply.Goals as goal
 pub returns-then-numbers-eq0 : goal.returns-then-numbers-eq0
 returns-then-numbers-eq0 c =
     let zero : get_or (numbers c.run-answer.result) 0 0 ≡ 0 = rw c.run_numbers-numbers.ensures at c.if-numbers-eq0.true in
-    let same = same_output c.args.input.now _ _ _ _ c.run-answer.result c.plan_of-plan.ensures c.byte_at.ensures.0 c.allowance_of.ensures (search rules) c.run-answer.ensures.answer in
+    let same = same_output c.args.input.now _ _ _ _ c.run-answer.result c.behind-plan.ensures c.byte_at.ensures.0 c.number_at.ensures (search rules) c.run-answer.ensures.answer in
     let done = success _ _ _ c.args.out.now _ c.run-answer.result c.run-answer.ensures.book c.run-answer.ensures.back zero in
     let all = shown _ _ _ _ (rw same at done.0) (c.book_length.ensures ∙ rw same at done.1) in
     record { counted = all.0; text = all.1.0; whole = all.1.1 }
@@ -29,7 +29,7 @@ put_line-requires c =
 pub returns : goal.returns
 returns c =
     let some : get_or (numbers c.run-answer.result) 0 0 ≡ 0 → ⊥ = λ z. c.if-numbers-eq0.false (rw c.run_numbers-numbers.ensures z) in
-    let same = same_output c.args.input.now _ _ _ _ c.run-answer.result c.plan_of-plan.ensures c.byte_at.ensures.0 c.allowance_of.ensures (search rules) c.run-answer.ensures.answer in
+    let same = same_output c.args.input.now _ _ _ _ c.run-answer.result c.behind-plan.ensures c.byte_at.ensures.0 c.number_at.ensures (search rules) c.run-answer.ensures.answer in
     let left = refusal _ _ _ c.args.out.now _ c.run-answer.result c.run-answer.ensures.book some in
     let all = shown _ _ _ _ (rw (c.run_numbers-numbers.ensures, left.1 ∙ same, left.0) at c.put_line.ensures.stored) (rw (c.run_numbers-numbers.ensures, left.1 ∙ same) at c.put_line.ensures.length) in
     record { counted = all.0; text = all.1.0; whole = all.1.1 }

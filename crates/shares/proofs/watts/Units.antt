@@ -1,12 +1,10 @@
 -- Laws of watts and kilowatts.
-use Rattle.std.proofs.Common.{◌≡◌, ℕ, ◌*◌, ◌/◌, ◌^◌, ◌≤◌, Bool, true, false, cond, T, leb, ℤ, pos, refl, sym, ap, ◌∙◌, true≢false, zero-le, mul_assoc, le-div_iff_mul-le, mul_right_comm, div-mul-le_self, arith, leb→le, le-leb}
+use Rattle.std.proofs.Common.{◌≡◌, ℕ, ◌*◌, ◌/◌, ◌^◌, ◌≤◌, Bool, true, false, cond, T, leb, ℤ, pos, refl, sym, ◌∙◌, zero-le, le-div_iff_mul-le, div-mul-le_self, arith, leb→le, le-leb}
 use native.Mathlib.Nat.{div-le_of_le-mul}
-use lib.Ieee.{Float, nan, inf, fin, binary64, up, down, of_int, mul, div}
+use lib.Ieee.{Float, nan, inf, fin, up, down, mul}
 use lib.Ieee.Fits.{down_pos}
-use lib.Ieee.Exact.{HasValue}
-use lib.Ieee.Back.{round_whole}
-use lib.Ieee.Scale.{round_same}
 use Rattle.curve.specs.F64.{◌⊗◌, ratio}
+use Rattle.curve.proofs.float.Whole.{whole_quotient}
 use Rattle.shares.specs.Watts.{watts_of, kilowatts_of}
 
 -- ---- from 0 to 65,536 kW the watts are the greatest whole number not above 1,000 * m * 2 ^ e
@@ -53,14 +51,6 @@ pub three_tenths_product : ratio 1000 1 ⊗ ratio 3 10 ≡ ratio 300 1
 three_tenths_product = product ∙ sym whole
 
 -- ---- w watts are the f64 nearest to w / 1,000, for w to 2 ^ 53
-nearest : (x : Float) (w : ℕ) → HasValue x false w 1 → div binary64 x (ratio 1000 1) ≡ ratio w 1000
-unfolding div ratio
-nearest nan w v = absurd v
-nearest (inf s) w v = absurd v
-nearest (fin true m e) w v = absurd (true≢false v.0)
-nearest (fin false m e) w v = round_same binary64 false (m * up e * 1) (1000 * down e) w 1000 (omega (arith, down_pos e)) (omega arith)
-    (ap (λ (z : ℕ). z * 1000) v.1 ∙ mul_right_comm w (down e) 1000 ∙ mul_assoc w 1000 (down e))
-
 pub one_rounding : (w : ℕ) → w ≤ 2 ^ 53 → kilowatts_of w ≡ ratio w 1000
-unfolding kilowatts_of of_int
-one_rounding w h = nearest (of_int binary64 (pos w)) w (round_whole binary64 false w h)
+unfolding kilowatts_of
+one_rounding w h = whole_quotient w 1000 h (omega arith) (omega arith)

@@ -4,7 +4,7 @@ use Rattle.std.proofs.lemmas.Result.{err_from_is_err_and}
 use Rattle.files.specs.Check.{pair_answer, check_plan}
 use Rattle.files.proofs.check.PairLaws.{reads}
 use Rattle.files.specs.Pairs.{failing_pair}
-use Rattle.files.proofs.read.Accepted.{counted}
+use Rattle.files.proofs.Accepted.{counted}
 use Rattle.files.proofs.check.read_plan.Goals as goal
 
 pub returns-in_err-check_blocks-clause-answer : goal.returns-in_err-check_blocks-clause-answer

@@ -8,7 +8,8 @@ use borrow.Author.Tests.{le-leb, lt-leb}
 use Rattle.engine.specs.Plan.{Plan}
 use Rattle.files.specs.Read.{read_plan}
 use Rattle.files.specs.Code.Reading.{Loaded}
-use Rattle.files.proofs.call.RunLaws.{runnable, as_counted}
+use Rattle.files.proofs.Accepted.{counted}
+use Rattle.files.proofs.call.RunLaws.{runnable}
 use Rattle.files.proofs.call.BookDemand.{vehicle-count}
 use Rattle.engine.specs.declared.discrete.State.{State}
 use Rattle.engine.specs.declared.site.Site.{Site}
@@ -80,12 +81,12 @@ returns-then-not-reached c =
     record { answer = rw (own, room, sym later_told ∙ c.if-not-reached.true); dump = refl }
 
 pub invariant_of-file : goal.invariant_of-file
-invariant_of-file c = omega (arith, as_counted c.args.read.plan.now c.args.read.loaded.admitted)
+invariant_of-file c = omega (arith, counted c.args.read.plan.now c.args.read.loaded.admitted)
 
 pub dump_longer-requires : goal.dump_longer-requires
 dump_longer-requires c =
     let count = counted_vehicles c.args.read.loaded in
-    let fits = as_counted c.args.read.plan.now c.args.read.loaded.admitted in
+    let fits = counted c.args.read.plan.now c.args.read.loaded.admitted in
     record {
       size = omega (arith, fits, c.if-len-ge64.false, c.len.ensures, count);
       vehicles = omega (arith, c.if-len-ge64.false, c.len.ensures, count);

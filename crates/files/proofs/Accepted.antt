@@ -78,7 +78,7 @@ module _ (plan : List ℕ) (fine : check_blocks plan ≡ Ok tt) where
   whole = length_answer (whole_blocks (length plan) 113) (first_refusal rules plan (length plan / 512)) fine
 
   -- the i-th rule refuses no block
-  rule : (i : ℕ) → i < 7 → (k : ℕ) → k < length plan / 512 → broken (get_or rules i Length) plan k ≡ false
+  pub rule : (i : ℕ) → i < 7 → (k : ℕ) → k < length plan / 512 → broken (get_or rules i Length) plan k ≡ false
   rule = no_refusal rules plan (length plan / 512) whole.1
 
   some_blocks : (length plan ≡ 512 * (length plan / 512)) × (0 < length plan / 512)

@@ -1,0 +1,2 @@
+-- Laws of the program's output.
+pub mod Answered
