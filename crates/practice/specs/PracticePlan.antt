@@ -1,9 +1,9 @@
 -- Rules. The plan of a practice day: copies of a plan's one vehicle, whose arrival, start and target are drawn.
-use Rattle.std.specs.Prelude.{ℕ, ◌+◌, ◌-◌, ◌*◌, ◌%◌, List, ◌++◌, take, drop, Float}
+use Rattle.std.specs.Prelude.{ℕ, ◌+◌, ◌*◌, ◌%◌, List, ◌++◌, Float}
 use Rattle.std.specs.Float.{binary64}
 use Rattle.std.specs.Float.Ieee.{to_bits}
 use Rattle.curve.specs.F64.{ratio}
-use Rattle.plan.specs.Bytes.{bytes, pieces}
+use Rattle.plan.specs.Bytes.{bytes, stretch, pieces}
 use Rattle.plan.specs.Blocks.{sealed}
 use Rattle.plan.specs.Header.{header_counting}
 use Rattle.plan.specs.Places.{start_of, vehicle_block}
@@ -22,10 +22,6 @@ abbrev pub drawn_target : ℕ → Float
 drawn_target d = ratio (512 + d % 512) 1024
 
 -- ---- a car's block
-
--- the bytes of b from `from` up to, not including, `to`
-abbrev pub stretch : List ℕ → ℕ → ℕ → List ℕ
-stretch b from to = take (to - from) (drop from b)
 
 -- the vehicle's bytes up to its check, with other id, start, target and arrival
 unfoldable pub car_bytes : List ℕ → ℕ → Float → Float → ℕ → List ℕ

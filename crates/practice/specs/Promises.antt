@@ -1,6 +1,5 @@
 -- Rules. Request 11, sentence by sentence, of a call that was not refused, and of one that was.
-use Rattle.std.specs.Prelude.{◌≡◌, ℕ, ◌+◌, ◌*◌, ◌%◌, ◌≤◌, ◌<◌, List, take, drop, slice_index, None, Result, Ok, Err}
-use Rattle.curve.specs.F64.{ratio}
+use Rattle.std.specs.Prelude.{◌≡◌, ℕ, ◌+◌, ◌*◌, ◌≤◌, ◌<◌, List, take, drop, slice_index, None, Result, Ok, Err}
 use Rattle.plan.specs.Answer.{number}
 use Rattle.plan.specs.Bytes.{le_at}
 use Rattle.plan.specs.Fields.{f64_at}
@@ -11,7 +10,7 @@ use Rattle.files.specs.Read.{read_plan}
 use Rattle.files.specs.Pairs.{failing_pair}
 use Rattle.files.specs.Check.{OfFine, check_plan}
 use Rattle.practice.specs.Xorshift.{draw}
-use Rattle.practice.specs.PracticePlan.{cars_at, practice_plan}
+use Rattle.practice.specs.PracticePlan.{drawn_arrival, drawn_start, drawn_target, cars_at, practice_plan}
 
 -- a refused call leaves the output untouched
 abbrev pub Untouched : List ℕ → List ℕ → Result (Unit {0}) Refusal → Type 0
@@ -37,9 +36,9 @@ module _ (plan : List ℕ) (seed count : ℕ) where
   -- the block is, up to its check, the vehicle's with the id i + 1 and three draws
   pub record IsCopy (i : ℕ) (b : List ℕ) : Type 0 where
     pub id : le_at 4 b 0 ≡ i + 1
-    pub arrival : le_at 8 b 40 ≡ draw seed (3 * i + 1) % 86400
-    pub start : f64_at b 16 ≡ ratio (draw seed (3 * i + 2) % 512) 1024
-    pub target : f64_at b 24 ≡ ratio (512 + draw seed (3 * i + 3) % 512) 1024
+    pub arrival : le_at 8 b 40 ≡ drawn_arrival (draw seed (3 * i + 1))
+    pub start : f64_at b 16 ≡ drawn_start (draw seed (3 * i + 2))
+    pub target : f64_at b 24 ≡ drawn_target (draw seed (3 * i + 3))
     pub profile : Same b (vehicle_block plan 0) 4 16
     pub idle : Same b (vehicle_block plan 0) 32 40
     pub rest : Same b (vehicle_block plan 0) 48 508

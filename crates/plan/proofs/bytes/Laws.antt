@@ -1,10 +1,10 @@
 -- Laws of little-endian numbers, of fields and of runs of stores. Assumes nothing.
-use Rattle.std.proofs.Common.{◌≡◌, ℕ, zero, suc, ◌+◌, ◌-◌, ◌*◌, ◌/◌, ◌%◌, ◌^◌, ◌<◌, ◌≤◌, List, [], ◌∷◌, ◌++◌, length, get_or, take, drop, set, refl, ap, append_assoc, append-nil, lt_of_lt_of_le, add-zero, add-suc, suc-add, pow-suc, mul-zero, mul-suc, add-one, arith, lit<, length-append, get_or-drop, drop-cons, get_or-take, drop-drop, get_or-append-add, drop_at}
+use Rattle.std.proofs.Common.{◌≡◌, ℕ, zero, suc, ◌+◌, ◌-◌, ◌*◌, ◌/◌, ◌%◌, ◌^◌, ◌<◌, ◌≤◌, List, [], ◌∷◌, ◌++◌, length, get_or, take, drop, set, refl, ap, append_assoc, append-nil, lt_of_lt_of_le, add-zero, add-suc, suc-add, pow-suc, mul-zero, mul-suc, add-one, arith, lit<, length-append, get_or-drop, drop-cons, get_or-take, drop-drop, get_or-append-add, drop_at, length-drop, length-take-le, ◌∙◌}
 use native.Mathlib.Nat.{pow-le-pow_right}
 use lib.ListN.{get_or-append}
 use lib.Seq.{sets, sets-eq}
 use borrow.Rule.Slice.PartMut.{put_mid}
-use Rattle.plan.specs.Bytes.{le_at, bytes, fields, in_a_row, pieces}
+use Rattle.plan.specs.Bytes.{le_at, bytes, stretch, fields, in_a_row, pieces}
 
 -- ---- a number that is read
 
@@ -122,6 +122,27 @@ sets_append l i (x ∷ a) b = rw (sets_append (set l i x) (suc i) a b, suc-add, 
 -- what is stored behind what was stored
 pub sets_behind : (s t u x y : List ℕ) (at next : ℕ) → t ≡ sets s at x → next ≡ at + length x → u ≡ sets t next y → u ≡ sets s at (x ++ y)
 sets_behind s t u x y at next p e q = rw (q, p, e, sets_append s at x y)
+
+-- ---- what stands behind other bytes
+
+-- a number that was written
+pub number_there : (b p : List ℕ) (n v at : ℕ) (r : List ℕ) → b ≡ p ++ (bytes n v ++ r) → length p ≡ at → v < 256 ^ n → le_at n b at ≡ v
+number_there b p n v at r e l h = rw (e, ← l) (rw add-zero at (le_at_right n p (bytes n v ++ r) 0) ∙ le_at-bytes n v r h)
+
+pub length-stretch : (s : List ℕ) (from to : ℕ) → to ≤ length s → length (stretch s from to) ≡ to - from
+length-stretch s from to h = length-take-le (to - from) (drop from s) (omega (arith, length-drop from s))
+
+-- bytes that were copied to their own places
+pub stretch_there : (b p s r : List ℕ) (from to : ℕ) → b ≡ p ++ (stretch s from to ++ r) → length p ≡ from → to ≤ length s
+    → (k : ℕ) → from ≤ k → k < to → get_or b k 0 ≡ get_or s k 0
+stretch_there b p s r from to e l h k m n =
+    let i : ℕ = k - from in
+    let own : from + i ≡ k = omega arith in
+    let there : length p + i ≡ k = omega (arith, l) in
+    let long = length-stretch s from to h in
+    let read : get_or (p ++ (stretch s from to ++ r)) (length p + i) 0 ≡ get_or s (from + i) 0
+    = get_or-append-add p _ i 0 ∙ get_or-append (stretch s from to) r 0 i (omega (arith, long)) ∙ get_or-take (to - from) (drop from s) i 0 (omega arith) ∙ get_or-drop from s i 0 in
+    rw e (rw (there, own) at read)
 
 -- ---- fields, one after the other
 

@@ -1,10 +1,11 @@
 -- What request 11 says of a call: as it is refused, and of the plan that it writes. Assumes nothing.
-use Rattle.std.proofs.Common.{◌≡◌, ℕ, ◌+◌, ◌*◌, ◌%◌, ◌<◌, ◌≤◌, Bool, true, false, not, ◌||◌, eqb, ltb, Option, Some, None, Result, Ok, Err, List, length, take, drop, sym, refl, ap, ◌∙◌, zero-add, true≢false, eqb-true, ltb-false, arith, length-drop, take_at, drop_at}
+use Rattle.std.proofs.Common.{◌≡◌, ℕ, ◌+◌, ◌*◌, ◌%◌, ◌<◌, ◌≤◌, false, not, ◌||◌, eqb, ltb, Option, Some, None, Result, Ok, Err, List, length, take, drop, sym, refl, ap, ◌∙◌, zero-add, eqb-true, ltb-false, arith, length-drop, take_at, drop_at}
 use borrow.Author.Tests.{eqb-false, not-false}
 use lib.ListN.{get_or-append}
 use lib.Ieee.{binary64, of_bits}
 use lib.Seq.{sets, sets-eq, take-append-le, drop-append-le}
 use Rattle.curve.specs.F64.{ratio}
+use Rattle.curve.proofs.float.Monotone.{or_false}
 use Rattle.plan.specs.Answer.{number}
 use Rattle.plan.specs.Bytes.{le_at}
 use Rattle.plan.specs.Blocks.{block}
@@ -39,10 +40,6 @@ by_pairs plan None = refl
 by_pairs plan (Some pair) = refl
 
 -- ---- what 19 leaves
-
-or_false : (a b : Bool) → (a || b) ≡ false → (a ≡ false) × (b ≡ false)
-or_false true b e = absurd (true≢false e)
-or_false false b e = (refl, e)
 
 pub record Allowed (count room vehicles : ℕ) : Type 0 where
   pub some : 1 ≤ count

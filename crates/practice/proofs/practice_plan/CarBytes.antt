@@ -1,28 +1,11 @@
 -- What is read of a car's block: the id, what was drawn, and the vehicle's own bytes. Assumes nothing.
-use Rattle.std.proofs.Common.{◌≡◌, ℕ, ◌+◌, ◌-◌, ◌^◌, ◌<◌, ◌≤◌, List, ◌++◌, length, get_or, drop, ◌∙◌, append_assoc, add-zero, arith, length-append, get_or-take, get_or-drop, get_or-append-add}
-use lib.ListN.{get_or-append}
+use Rattle.std.proofs.Common.{◌≡◌, ℕ, ◌^◌, ◌<◌, List, ◌++◌, length, ◌∙◌, append_assoc, arith, length-append}
 use lib.Ieee.{Float, binary64, to_bits}
-use Rattle.plan.specs.Bytes.{le_at, bytes}
+use Rattle.plan.specs.Bytes.{le_at, bytes, stretch}
 use Rattle.plan.specs.Blocks.{check_of, sealed}
-use Rattle.plan.proofs.bytes.Laws.{length-bytes, le_at_right, le_at-bytes}
-use Rattle.practice.specs.PracticePlan.{stretch, car_bytes}
+use Rattle.plan.proofs.bytes.Laws.{length-bytes, le_at-bytes, length-stretch, number_there, stretch_there}
+use Rattle.practice.specs.PracticePlan.{car_bytes}
 use Rattle.practice.specs.Promises.{Same}
-use Rattle.practice.proofs.practice_plan.Stored.{length-stretch}
-
--- a number that was written behind other bytes
-number_in : (b p : List ℕ) (n v at : ℕ) (r : List ℕ) → b ≡ p ++ (bytes n v ++ r) → length p ≡ at → v < 256 ^ n → le_at n b at ≡ v
-number_in b p n v at r e l h = rw (e, ← l) (rw add-zero at (le_at_right n p (bytes n v ++ r) 0) ∙ le_at-bytes n v r h)
-
--- bytes that were copied behind other bytes
-copied_in : (b p c r : List ℕ) (from to : ℕ) → b ≡ p ++ (stretch c from to ++ r) → length p ≡ from → to ≤ length c → Same b c from to
-copied_in b p c r from to e l h k m n =
-    let i : ℕ = k - from in
-    let own : from + i ≡ k = omega arith in
-    let there : length p + i ≡ k = omega (arith, l) in
-    let long = length-stretch c from to h in
-    let read : get_or (p ++ (stretch c from to ++ r)) (length p + i) 0 ≡ get_or c (from + i) 0
-    = get_or-append-add p _ i 0 ∙ get_or-append (stretch c from to) r 0 i (omega (arith, long)) ∙ get_or-take (to - from) (drop from c) i 0 (omega arith) ∙ get_or-drop from c i 0 in
-    rw e (rw (there, own) at read)
 
 module _ (vehicle : List ℕ) (long : length vehicle ≡ 512) (place id : ℕ) (start target : Float) (arrival : ℕ) where
   abbrev pub car : List ℕ
@@ -60,22 +43,22 @@ module _ (vehicle : List ℕ) (long : length vehicle ≡ 512) (place id : ℕ) (
   id_in h = rw parts (le_at-bytes 4 id _ h)
 
   pub start_in : to_bits binary64 start < 256 ^ 8 → le_at 8 car 16 ≡ to_bits binary64 start
-  start_in h = number_in car (bytes 4 id ++ own) 8 (to_bits binary64 start) 16 (to ++ (idle ++ (when ++ rest))) (parts ∙ simp append_assoc) (rw (length-append, length-bytes, length_own)) h
+  start_in h = number_there car (bytes 4 id ++ own) 8 (to_bits binary64 start) 16 (to ++ (idle ++ (when ++ rest))) (parts ∙ simp append_assoc) (rw (length-append, length-bytes, length_own)) h
 
   pub target_in : to_bits binary64 target < 256 ^ 8 → le_at 8 car 24 ≡ to_bits binary64 target
-  target_in h = number_in car (bytes 4 id ++ own ++ from) 8 (to_bits binary64 target) 24 (idle ++ (when ++ rest)) (parts ∙ simp append_assoc) (simp (length-append, length-bytes, length_own)) h
+  target_in h = number_there car (bytes 4 id ++ own ++ from) 8 (to_bits binary64 target) 24 (idle ++ (when ++ rest)) (parts ∙ simp append_assoc) (simp (length-append, length-bytes, length_own)) h
 
   pub arrival_in : arrival < 256 ^ 8 → le_at 8 car 40 ≡ arrival
   arrival_in h =
-      number_in car (bytes 4 id ++ own ++ from ++ to ++ idle) 8 arrival 40 rest (parts ∙ simp append_assoc) (simp (length-append, length-bytes, length_own, length_idle)) h
+      number_there car (bytes 4 id ++ own ++ from ++ to ++ idle) 8 arrival 40 rest (parts ∙ simp append_assoc) (simp (length-append, length-bytes, length_own, length_idle)) h
 
   pub profile_same : Same car vehicle 4 16
-  profile_same = copied_in car (bytes 4 id) vehicle _ 4 16 parts (rw length-bytes) (omega arith)
+  profile_same = stretch_there car (bytes 4 id) vehicle _ 4 16 parts (rw length-bytes) (omega arith)
 
   pub idle_same : Same car vehicle 32 40
-  idle_same = copied_in car (bytes 4 id ++ own ++ from ++ to) vehicle (when ++ rest) 32 40 (parts ∙ simp append_assoc) (simp (length-append, length-bytes, length_own)) (omega arith)
+  idle_same = stretch_there car (bytes 4 id ++ own ++ from ++ to) vehicle (when ++ rest) 32 40 (parts ∙ simp append_assoc) (simp (length-append, length-bytes, length_own)) (omega arith)
 
   pub rest_same : Same car vehicle 48 508
   rest_same =
-      copied_in car (bytes 4 id ++ own ++ from ++ to ++ idle ++ when) vehicle (bytes 4 (check_of place (car_bytes vehicle id start target arrival))) 48 508 (parts ∙ simp append_assoc) (simp (length-append, length-bytes, length_own, length_idle))
+      stretch_there car (bytes 4 id ++ own ++ from ++ to ++ idle ++ when) vehicle (bytes 4 (check_of place (car_bytes vehicle id start target arrival))) 48 508 (parts ∙ simp append_assoc) (simp (length-append, length-bytes, length_own, length_idle))
       (omega arith)

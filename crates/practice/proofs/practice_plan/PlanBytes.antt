@@ -1,18 +1,17 @@
 -- What is read of a practice plan: the header, the plan's own blocks, and the cars. Assumes nothing.
-use Rattle.std.proofs.Common.{◌≡◌, ℕ, ◌+◌, ◌-◌, ◌*◌, ◌<◌, ◌≤◌, List, [], ◌++◌, length, get_or, take, drop, sym, ap, ◌∙◌, append-nil, add-zero, zero-add, arith, length-append, length-drop, length-take-le, take-append-drop, get_or-take, get_or-drop, get_or-append-add, drop-drop, drop_at, take_at}
-use lib.ListN.{get_or-append}
+use Rattle.std.proofs.Common.{◌≡◌, refl, ℕ, ◌+◌, ◌-◌, ◌*◌, ◌<◌, ◌≤◌, List, [], ◌++◌, length, take, drop, sym, ap, ◌∙◌, append-nil, add-zero, zero-add, arith, length-append, length-drop, length-take-le, take-append-drop, drop-drop, drop_at, take_at}
 use lib.Seq.{take-append-le, drop-append-le}
-use Rattle.plan.specs.Bytes.{pieces}
+use Rattle.plan.specs.Bytes.{pieces, stretch}
 use Rattle.plan.specs.Blocks.{block}
 use Rattle.plan.specs.Header.{header_counting}
 use Rattle.plan.specs.Places.{profile_count, charger_count, vehicle_count, start_of, vehicle_block}
 use Rattle.plan.specs.declared.places.Kind.TheVariants.{Vehicle}
-use Rattle.plan.proofs.bytes.Laws.{length-pieces, Begins, piece_at}
+use Rattle.plan.proofs.bytes.Laws.{length-pieces, Begins, piece_at, length-stretch, stretch_there}
 use Rattle.plan.proofs.header.Laws.{length_header, first_byte, later_byte, vehicles_counted, first_fields, header_dropped}
 use Rattle.files.specs.Code.Reading.{Counted}
-use Rattle.practice.specs.PracticePlan.{stretch, cars_at, car_block, practice_plan}
+use Rattle.practice.specs.PracticePlan.{cars_at, car_block, practice_plan}
 use Rattle.practice.specs.Promises.{Same, plan_length}
-use Rattle.practice.proofs.practice_plan.Stored.{length-stretch, length-car_block}
+use Rattle.practice.proofs.practice_plan.Stored.{length-car_block}
 
 -- a block between a header and what follows does not go by these
 between : (h m r : List ℕ) (k : ℕ) → length h ≡ 512 → 512 * (k + 1) ≤ length m → block (h ++ (m ++ r)) (1 + k) ≡ block m k
@@ -100,14 +99,7 @@ module _ (plan : List ℕ) (c : Counted plan) (one : vehicle_count plan ≡ 1) (
 
   pub same_kept : Same made plan 512 (cars_at plan)
   unfolding practice_plan
-  same_kept k a b =
-      let i : ℕ = k - 512 in
-      let own : 512 + i ≡ k = omega arith in
-      let there : length header + i ≡ k = omega (arith, length_head) in
-      let read : get_or (header ++ (kept ++ cars)) (length header + i) 0 ≡ get_or plan (512 + i) 0
-      = get_or-append-add header (kept ++ cars) i 0 ∙ get_or-append kept cars 0 i (omega (arith, length_kept))
-      ∙ get_or-take (cars_at plan - 512) (drop 512 plan) i 0 (omega arith) ∙ get_or-drop 512 plan i 0 in
-      rw (there, own) at read
+  same_kept = stretch_there made header plan cars 512 (cars_at plan) refl length_head (omega (arith, long))
 
   -- the plan itself in the same parts
   own_parts : plan ≡ take 512 plan ++ (kept ++ drop (cars_at plan - 512) (drop 512 plan))

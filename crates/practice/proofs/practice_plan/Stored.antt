@@ -1,19 +1,16 @@
 -- The practice plan as it is stored, part by part. Assumes nothing.
-use Rattle.std.proofs.Common.{◌≡◌, ℕ, ◌+◌, ◌-◌, ◌≤◌, List, ◌++◌, length, take, drop, append_assoc, arith, length-append, length-drop, length-take-le}
+use Rattle.std.proofs.Common.{◌≡◌, ℕ, ◌+◌, ◌-◌, ◌≤◌, List, ◌++◌, length, take, drop, append_assoc, arith, length-append}
 use lib.Ieee.{Float, binary64, to_bits}
 use lib.Seq.{sets}
-use Rattle.plan.specs.Bytes.{bytes, pieces}
+use Rattle.plan.specs.Bytes.{bytes, pieces, stretch}
 use Rattle.plan.specs.Header.{header_counting}
 use Rattle.plan.specs.Places.{start_of, vehicle_block}
 use Rattle.plan.specs.declared.places.Kind.TheVariants.{Vehicle}
 use Rattle.plan.specs.Blocks.{check_of, sealed}
-use Rattle.plan.proofs.bytes.Laws.{sets_behind, length-bytes}
+use Rattle.plan.proofs.bytes.Laws.{sets_behind, length-bytes, length-stretch}
 use Rattle.plan.proofs.blocks.Laws.{put_sealed, length-sealed}
 use Rattle.plan.proofs.header.Laws.{length_header}
-use Rattle.practice.specs.PracticePlan.{stretch, car_bytes, car_block, cars_at, practice_plan}
-
-pub length-stretch : (b : List ℕ) (from to : ℕ) → to ≤ length b → length (stretch b from to) ≡ to - from
-length-stretch b from to h = length-take-le (to - from) (drop from b) (omega (arith, length-drop from b))
+use Rattle.practice.specs.PracticePlan.{car_bytes, car_block, cars_at, practice_plan}
 
 module _ (vehicle : List ℕ) (long : length vehicle ≡ 512) where
   pub length-car : (id : ℕ) (start target : Float) (arrival : ℕ) → length (car_bytes vehicle id start target arrival) ≡ 508
