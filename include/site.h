@@ -1,20 +1,22 @@
 /* The joined site engine for C and C++: check a plan, run it, dump a run, book a late car into it and continue it, read a book back, make a
- * practice day.
+ * practice day, play a script on the panel boards.
  *
  * `bash examples/link` proves the functions and makes target/staticlib/libcalls.a, for x86-64 Linux. It needs nothing
  * but memcpy and memset, so no further library is named:
  *
  *     cc main.c -Iinclude target/staticlib/libcalls.a
  *
- * docs/FORMATS.md describes the plan, the book and the dump byte by byte, the late booking, the practice day, and the refusals.
+ * docs/FORMATS.md describes the plan, the book and the dump byte by byte, the late booking, the practice day, the cabinets' registers, and
+ * the refusals.
  *
  * What holds of every call:
  * - Every plan, every dump, every car and every book gets an answer, also one that is damaged or none at all. Nothing needs to
  *   be tested before a call.
  * - A call is a function of its arguments alone. It allocates nothing, keeps no pointer and has no state, so calls may run
  *   on several threads at once, each with its own buffers to write and its own `numbers`; what is only read may be shared.
- * - No pointer may be null, also where its length is 0. The buffers of one call may not overlap. `numbers`, `header`
- *   and `sessions` are aligned as uint64_t; `plan`, `book`, `dump`, `car`, `new_dump` and `day` may begin anywhere.
+ * - No pointer may be null, also where its length is 0. The buffers of one call may not overlap. `numbers`, `header`,
+ *   `sessions` and `script` are aligned as uint64_t; `plan`, `book`, `dump`, `car`, `new_dump`, `day` and `answers` may begin
+ *   anywhere.
  * - A refused call writes `numbers` and nothing else.
  * - Each call has its SITE_.._STACK, the most bytes of stack that it takes; examples/c/stack.c measures it against them. Give
  *   a thread that calls them 512 KiB or more: the usual 8 MiB is plenty, the 128 KiB of a thread under musl are too few.
@@ -43,6 +45,9 @@ extern "C" {
 /* A plan that counts more vehicles is refused by 6, a late car that would be one more by 17, a practice day of more by 19. */
 #define SITE_VEHICLES_MOST 64
 
+/* A plan that counts more chargers is refused by 6. */
+#define SITE_CHARGERS_MOST 32
+
 /* A book that counts more sessions is refused by 16. */
 #define SITE_SESSIONS_MOST 64
 
@@ -59,8 +64,9 @@ extern "C" {
 #define SITE_BOOK_LATE_STACK 184320
 #define SITE_READ_BOOK_STACK 4096
 #define SITE_PRACTICE_STACK 24576
+#define SITE_PANEL_STACK 106496
 
-/* A larger allowance, also of further events, is refused by 2. */
+/* A larger allowance, also of further events, is refused by 2, and so is a script that asks for more rounds in all. */
 #define SITE_ALLOWANCE_MOST 10000000
 
 /* Engines; any other number is refused by 1, and so are steps where a dump is asked for. */
@@ -122,6 +128,43 @@ enum site_outcome {
     SITE_OUTCOME_RENEGED,  /* 2: gave up waiting */
     SITE_OUTCOME_BALKED,   /* 3: drove on */
     SITE_OUTCOMES          /* how many there are: 4 */
+};
+
+/* What an operation of a script does. Its number has the kind in bits 0 and 1, the byte to write in bits 8 to 15, and its argument in
+ * bits 32 to 63: how many rounds, an address, or for a line the charger's place in the plan, from 0. Other bits are not looked at. */
+enum site_operation {
+    SITE_OPERATION_ROUNDS,  /* 0: so many rounds of one second; once the run has ended they do nothing */
+    SITE_OPERATION_READ,    /* 1: reads the byte at an address */
+    SITE_OPERATION_WRITE,   /* 2: writes the byte to an address */
+    SITE_OPERATION_LINE     /* 3: whether a cabinet's line is raised */
+};
+
+/* What an operation answers. One that is refused changes nothing, and the script goes on. */
+enum site_access {
+    SITE_ACCESS_DONE = 0,
+    SITE_ACCESS_OUTSIDE = 20,   /* the address lies outside the cabinets, or the plan has no such charger */
+    SITE_ACCESS_READ_ONLY = 21  /* the byte cannot be written; tested after 20 */
+};
+
+/* Where the bytes of a cabinet stand. Those of the charger at place k, from 0, begin at address SITE_CABINET_BYTES * k. */
+enum site_cabinet_byte {
+    SITE_CABINET_STATUS,       /* 0: bits of enum site_cabinet_status, 0 at a free cabinet */
+    SITE_CABINET_PENDING,      /* 1: bits of enum site_cabinet_event that came; ones that are written clear them */
+    SITE_CABINET_ENABLE,       /* 2: bits of enum site_cabinet_event, 0 at first; other bits that are written are dropped */
+    SITE_CABINET_VEHICLE = 4,  /* 4: 32 bits, lowest byte first: the id of the vehicle that stands there, 0 at a free cabinet */
+    SITE_CABINET_ENERGY = 8,   /* 8: a double, lowest byte first: what it was charged so far in kWh, 0 at a free cabinet */
+    SITE_CABINET_BYTES = 16    /* how many there are; byte 3 is 0 */
+};
+
+enum site_cabinet_status {
+    SITE_CABINET_OCCUPIED = 1,
+    SITE_CABINET_CHARGING = 2,
+    SITE_CABINET_IDLE = 4
+};
+
+enum site_cabinet_event {
+    SITE_CABINET_STARTED = 1,  /* a car was plugged in */
+    SITE_CABINET_ENDED = 2     /* the charger was freed */
 };
 
 /* Checks a plan without running it.
@@ -222,6 +265,23 @@ void site_read_book(const uint8_t *book, size_t book_length, uint64_t header[SIT
  */
 void site_practice(const uint8_t *plan, size_t plan_length, uint32_t seed, uint32_t count, uint8_t *day, size_t day_length,
                    uint64_t numbers[SITE_NUMBERS]);
+
+/* Plays a script on the panel boards of a site, beside a run by steps from its start. A board shows a cabinet as SITE_CABINET_BYTES
+ * bytes. Reads and writes fall between rounds, and the run is the one that site_run makes.
+ *
+ * It is proved that a pending bit is set exactly if its event came after the bit was cleared last, or came at all where it was never
+ * cleared. A charger that is freed and takes a waiting car in the same round has both events. A cabinet's line is raised while
+ * its pending and its enable share a bit.
+ *
+ * plan, plan_length        the plan's bytes; read only
+ * script, script_length    the operations, and how many there are; read only. As many are played as have room in `answers`
+ * answers, answers_length  two bytes for each operation played: one of enum site_access, and the byte that was read, or 1 for a line
+ *                          that is raised, else 0. Bytes behind them stay as they were
+ * numbers                  all eleven are written: refusals 2 and 4 to 12, tested in this order, or zeros. 2: the operations played
+ *                          ask for more than SITE_ALLOWANCE_MOST rounds in all
+ */
+void site_panel(const uint8_t *plan, size_t plan_length, const uint64_t *script, size_t script_length, uint8_t *answers,
+                size_t answers_length, uint64_t numbers[SITE_NUMBERS]);
 
 #ifdef __cplusplus
 }

@@ -13,6 +13,8 @@ mod change;
 mod dump_slips;
 #[path = "slipped/late_slips.rs"]
 mod late_slips;
+#[path = "slipped/panel_slips.rs"]
+mod panel_slips;
 #[path = "slipped/practice_slips.rs"]
 mod practice_slips;
 
@@ -21,6 +23,7 @@ use call_slips::{CALL_SLIPS, CALLS, PLAN};
 use change::{Change, changed};
 use dump_slips::{DUMP_CALLS, DUMP_SLIPS};
 use late_slips::{BOOK_LATE, LATE_SLIPS};
+use panel_slips::{PANEL, PANEL_SLIPS};
 use practice_slips::{PRACTICE, PRACTICE_SLIPS};
 
 fn main() {
@@ -53,10 +56,11 @@ fn main() {
 /// Copies the oracle's own calls, with the slip where it is one of theirs, and declares them for src/slipped.rs.
 fn copy_calls(here: &Path, slip: &str) {
     let out = PathBuf::from(env::var("OUT_DIR").unwrap());
-    let lists: [&[(&str, Change)]; 5] = [&CALL_SLIPS, &DUMP_SLIPS, &BOOK_SLIPS, &LATE_SLIPS, &PRACTICE_SLIPS];
+    let lists: [&[(&str, Change)]; 6] =
+        [&CALL_SLIPS, &DUMP_SLIPS, &BOOK_SLIPS, &LATE_SLIPS, &PRACTICE_SLIPS, &PANEL_SLIPS];
     let slip = lists.into_iter().flatten().find(|(known, _)| *known == slip).map(|(_, change)| change);
     let mut declarations = String::new();
-    for file in [PLAN, CALLS, DUMP_CALLS, READ_BOOK, BOOK_LATE, PRACTICE] {
+    for file in [PLAN, CALLS, DUMP_CALLS, READ_BOOK, BOOK_LATE, PRACTICE, PANEL] {
         let source = here.join("src").join(file);
         println!("cargo::rerun-if-changed={}", source.display());
         let mut text = fs::read_to_string(&source).unwrap();

@@ -1,6 +1,6 @@
 #!/bin/sh
 # Builds the copy with each slip in turn. The comparison must find each; it stops where one stays hidden.
-# slips.sh [--dumps | --books | --late | --practice] [CASES]: with an option the slips that the comparison with it must find.
+# slips.sh [--dumps | --books | --late | --practice | --panel] [CASES]: with an option the slips that the comparison with it must find.
 cd "$(dirname "$0")" || exit 2
 only=
 case ${1-} in
@@ -44,6 +44,7 @@ try_all slipped/dump_slips.rs --dumps
 try_all slipped/book_slips.rs --books
 try_all slipped/late_slips.rs --late
 try_all slipped/practice_slips.rs --practice
+try_all slipped/panel_slips.rs --panel
 if [ "$tried" -eq 0 ]; then
     echo "there are no slips for $only" >&2
     exit 2

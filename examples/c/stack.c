@@ -8,11 +8,13 @@
 
 #include "site.h"
 
-enum { STACK = 1 << 20, PATTERN = 0xa5 };
+enum { STACK = 1 << 20, PATTERN = 0xa5, ADDRESSES = SITE_CABINET_BYTES * (SITE_CHARGERS_MOST + 1) };
 
 static uint8_t plan[SITE_PLAN_MOST + 1], shorter[SITE_PLAN_MOST + 1];
 static size_t length, shorter_length;
 static uint8_t book[SITE_BOOK_LEAST], dump[SITE_DUMP_LEAST], new_dump[SITE_DUMP_LEAST], day[SITE_PRACTICE_LEAST];
+static uint8_t answers[2 * (1 + 3 * ADDRESSES)];
+static uint64_t script[1 + 3 * ADDRESSES];
 static uint64_t numbers[SITE_NUMBERS], header[SITE_HEADER_NUMBERS], sessions[SITE_SESSIONS_MOST * SITE_SESSION_NUMBERS];
 static uint8_t *stack, *top;
 
@@ -66,6 +68,19 @@ static void *practicing(void *none) {
     for (uint32_t cars = SITE_VEHICLES_MOST + 1; cars > 0; cars--)
         site_practice(shorter, shorter_length, 1, cars, day, sizeof day, numbers);
     return none;
+}
+
+/* Some rounds, and then every address is read and written, and also taken as the place of a line. */
+static void *playing(void *allowances) {
+    top = __builtin_frame_address(0);
+    for (uint64_t at = 0; at < ADDRESSES; at++)
+        for (uint64_t kind = SITE_OPERATION_READ; kind <= SITE_OPERATION_LINE; kind++)
+            script[3 * at + kind] = kind | 0xff << 8 | at << 32;
+    for (const uint32_t *allowance = allowances; *allowance <= SITE_ALLOWANCE_MOST; allowance++) {
+        script[0] = SITE_OPERATION_ROUNDS | (uint64_t)*allowance << 32;
+        site_panel(plan, length, script, sizeof script / sizeof *script, answers, sizeof answers, numbers);
+    }
+    return NULL;
 }
 
 /* The bytes between where the calls began and the deepest byte that was written. */
@@ -157,6 +172,7 @@ static int measure(const char *name) {
         {"site_book_late", most_of_booking(allowances), SITE_BOOK_LATE_STACK},
         {"site_read_book", most_of_reading(allowances), SITE_READ_BOOK_STACK},
         {"site_practice", most_of_practice(), SITE_PRACTICE_STACK},
+        {"site_panel", depth(playing, allowances), SITE_PANEL_STACK},
     };
     int fine = 1;
     printf("%s, bytes of stack", name);

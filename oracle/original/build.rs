@@ -14,6 +14,8 @@ mod changes;
 mod dump_slips;
 #[path = "../slipped/late_slips.rs"]
 mod late_slips;
+#[path = "../slipped/panel_slips.rs"]
+mod panel_slips;
 #[path = "../slipped/practice_slips.rs"]
 mod practice_slips;
 mod slips;
@@ -81,18 +83,19 @@ fn original_folder() -> PathBuf {
 }
 
 /// The one further change that SLIP asks for; without SLIP, and where it names a slip of the oracle's calls, the slipped
-/// copy is the original.
+/// copy is the original. Those of request 12 are of both.
 fn slip() -> Option<Change> {
     let name = env::var("SLIP").ok().filter(|name| !name.is_empty())?;
-    let found = slips::SLIPS.iter().find(|(known, _)| *known == name).map(|(_, change)| *change);
+    let of_the_run = panel_slips::PANEL_SLIPS.iter().filter(|(_, change)| change.file != panel_slips::PANEL);
+    let mut found = slips::SLIPS.iter().chain(of_the_run).filter(|(known, _)| *known == name);
     let of_calls = call_slips::CALL_SLIPS.iter().chain(&dump_slips::DUMP_SLIPS);
     let of_calls = of_calls.chain(&book_slips::BOOK_SLIPS).chain(&late_slips::LATE_SLIPS);
-    let of_calls = of_calls.chain(&practice_slips::PRACTICE_SLIPS);
+    let of_calls = of_calls.chain(&practice_slips::PRACTICE_SLIPS).chain(&panel_slips::PANEL_SLIPS);
     let names: Vec<&str> = slips::SLIPS.iter().chain(of_calls).map(|(known, _)| *known).collect();
     if !names.contains(&name.as_str()) {
         stop(&format!("SLIP is {name}; known are: {}.", names.join(", ")));
     }
-    found
+    found.next().map(|(_, change)| *change)
 }
 
 fn copy(from: &Path, to: &Path, file: &str, changes: &[Change]) {

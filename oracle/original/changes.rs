@@ -4,7 +4,7 @@ use crate::change::{Change, change};
 const STD_HEAP: &str = "use std::collections::BinaryHeap;\n";
 const STAND_IN_HEAP: &str = "use binary_heap::BinaryHeap;\n";
 
-pub const CHANGES: [Change; 31] = [
+pub const CHANGES: [Change; 35] = [
     // The stand-in for the heap, and what it pops by, which is request 4's. (The map's stand-in takes the crate's own name.)
     change("containers/vehicle_list.rs", STD_HEAP, STAND_IN_HEAP),
     change("evse/charger.rs", STD_HEAP, STAND_IN_HEAP),
@@ -161,6 +161,28 @@ const DEFAULT_MAX_POWER_KW: f64 = 480.0;
         // If the total requested power is more than the site limit then scale all
 ",
     ),
+    // Request 12: a charger tells when a car plugs in and when it is freed. What it shows of a car is among the accessors of
+    // the step loop below.
+    change(
+        "evse/charger.rs",
+        "    pub lead_currents_a: [f64; 5],\n",
+        "    pub lead_currents_a: [f64; 5],\n    pub has_started: bool,\n    pub has_ended: bool,\n",
+    ),
+    change(
+        "evse/charger.rs",
+        "            is_busy: false,\n",
+        "            is_busy: false,\n            has_started: false,\n            has_ended: false,\n",
+    ),
+    change(
+        "evse/charger.rs",
+        STARTS_BY_STEPS,
+        "        self.has_started = true;\n        sessions.push(Session::started(\n",
+    ),
+    change(
+        "evse/charger.rs",
+        "        self.is_busy = false;\n",
+        "        self.is_busy = false;\n        self.has_ended = true;\n",
+    ),
     // The builder of vehicles samples; the oracle makes vehicles from the plan.
     change("ev/vehicle.rs", "use crate::distributions::{DurationSampler, ItemSampler, SocSampler};\n", ""),
     change("ev/vehicle.rs", "use rand::Rng;\n", ""),
@@ -250,6 +272,16 @@ const DEFAULT_MAX_POWER_KW: f64 = 480.0;
         self.waiting_queue.len()
     }
 
+    pub fn chargers(&mut self) -> &mut [crate::evse::Charger] {
+        &mut self.site.chargers
+    }
+
+    /// The state of a charger that has a car, and the car.
+    pub fn occupied(&self, charger: &Uuid) -> Option<(&ChargerState, Uuid)> {
+        let state = self.active_charger_states.get(charger)?;
+        Some((state, self.sessions[state.session_idx].vehicle_id))
+    }
+
     ///
     /// Get the simulation's session data.
 ",
@@ -261,6 +293,7 @@ const BALKS_BY_FLEET: &str = "} else if self.waiting_queue.len() >= vehicle.max_
                         || self.waiting_queue.fleet_is_full(vehicle, &self.vehicle_list, &self.site.fleet_places)
                     {
 ";
+const STARTS_BY_STEPS: &str = "        sessions.push(Session::started(\n";
 const RUN: &str = "    pub fn run(&mut self) -> Result<(), SimulationError> {\n";
 const RUN_CUT: &str = "    pub fn run(&mut self, allowance: u32) -> Result<u32, SimulationError> {
         let mut used = 0;

@@ -1,4 +1,4 @@
-//! The calls of requests 1, 7 and 11 on both sides, and what a case draws for them.
+//! The calls of requests 1, 7, 11 and 12 on both sides, and what a case draws for them.
 use crate::accounts::Run;
 use crate::blocks::{BLOCK, hash, put, put_f64, reseal, u16_at, u32_at, u64_at};
 use crate::book::LEAST_BOOK;
@@ -7,9 +7,10 @@ use crate::draw::Draw;
 use crate::dump::LEAST_DUMP;
 use crate::generate::Case;
 use crate::plan::FLEET;
-use crate::sides::{first_byte, numbers, other_book_late, other_dump, other_practice, other_resume, prefilled};
-use crate::words;
-use crate::{Numbers, book_late, dump, practice, resume};
+use crate::sides::{
+    first_byte, numbers, other_book_late, other_dump, other_panel, other_practice, other_resume, prefilled,
+};
+use crate::{Numbers, book_late, dump, panel, panels, practice, resume, words};
 use std::collections::BTreeMap;
 use std::fmt::{self, Display};
 
@@ -26,6 +27,8 @@ pub struct Tally {
     pub practised: BTreeMap<u64, u64>,
     /// The checks of what the last of these calls wrote.
     pub days: BTreeMap<u64, u64>,
+    pub panels: BTreeMap<u64, u64>,
+    pub seen: panels::Seen,
 }
 
 /// A call, with the lengths of the buffers that it may write to.
@@ -35,6 +38,7 @@ pub enum Call<'a> {
     Continue { plan: &'a [u8], dump: &'a [u8], further: u32, book: usize },
     BookLate { plan: &'a [u8], dump: &'a [u8], car: &'a [u8], new_dump: usize },
     Practice { plan: &'a [u8], seed: u32, count: u32, out: usize },
+    Panel { plan: &'a [u8], script: &'a [u64], out: usize },
 }
 
 /// The numbers of a call, and its prefilled buffers after it. One that it has not is empty.
@@ -44,18 +48,21 @@ pub struct Left {
     /// The new one where a car is booked.
     pub dump: Vec<u8>,
     pub day: Vec<u8>,
+    /// Of a script's operations.
+    pub answers: Vec<u8>,
 }
 
 impl Call<'_> {
     fn lent(&self) -> Left {
         let lengths = match *self {
-            Self::Dump { book, dump, .. } => [book, dump, 0],
-            Self::Continue { book, .. } => [book, 0, 0],
-            Self::BookLate { new_dump, .. } => [0, new_dump, 0],
-            Self::Practice { out, .. } => [0, 0, out],
+            Self::Dump { book, dump, .. } => [book, dump, 0, 0],
+            Self::Continue { book, .. } => [book, 0, 0, 0],
+            Self::BookLate { new_dump, .. } => [0, new_dump, 0, 0],
+            Self::Practice { out, .. } => [0, 0, out, 0],
+            Self::Panel { out, .. } => [0, 0, 0, out],
         };
-        let [book, dump, day] = lengths.map(prefilled);
-        Left { numbers: [0; 11], book, dump, day }
+        let [book, dump, day, answers] = lengths.map(prefilled);
+        Left { numbers: [0; 11], book, dump, day, answers }
     }
 
     fn wanted(&self) -> Left {
@@ -65,6 +72,7 @@ impl Call<'_> {
             Self::Continue { plan, dump, further, .. } => resume(plan, dump, further, &mut left.book),
             Self::BookLate { plan, dump, car, .. } => book_late(plan, dump, car, &mut left.dump),
             Self::Practice { plan, seed, count, .. } => practice(plan, seed, count, &mut left.day),
+            Self::Panel { plan, script, .. } => panel(plan, script, &mut left.answers),
         };
         left
     }
@@ -78,8 +86,47 @@ impl Call<'_> {
             Self::Continue { plan, dump, further, .. } => other_resume(plan, dump, further, &mut left.book),
             Self::BookLate { plan, dump, car, .. } => other_book_late(plan, dump, car, &mut left.dump),
             Self::Practice { plan, seed, count, .. } => other_practice(plan, seed, count, &mut left.day),
+            Self::Panel { plan, script, .. } => other_panel(plan, script, &mut left.answers),
         };
         left
+    }
+
+    /// How what the other side left differs from what it should have.
+    fn difference(&self, wanted: &Left, got: &Left) -> Option<String> {
+        if wanted.numbers != got.numbers {
+            return Some(format!("wanted {}, got {}", numbers(&wanted.numbers), numbers(&got.numbers)));
+        }
+        let of = |name: &str, byte: Option<String>| byte.map(|byte| format!("{name}: {byte}"));
+        of("dump", first_byte(&wanted.dump, &got.dump))
+            .or_else(|| of("book", first_byte(&wanted.book, &got.book)))
+            .or_else(|| of("day", first_byte(&wanted.day, &got.day)))
+            .or_else(|| self.first_answer(&wanted.answers, &got.answers))
+    }
+
+    /// The first operation of a script with another answer, or the first other byte past the answers.
+    fn first_answer(&self, wanted: &[u8], got: &[u8]) -> Option<String> {
+        let Self::Panel { script, .. } = self else { return None };
+        let other = |(wanted, got): (&[u8], &[u8])| wanted != got;
+        let mut pairs = wanted.chunks_exact(2).zip(got.chunks_exact(2)).take(script.len());
+        match pairs.position(other) {
+            Some(k) => {
+                let [wanted, got] = [wanted, got].map(|answers| &answers[2 * k..2 * k + 2]);
+                Some(format!("operation {k}, {}: wanted {wanted:?}, got {got:?}", panels::Operation::of(script[k])))
+            }
+            None => first_byte(wanted, got),
+        }
+    }
+
+    /// The operations of a script that are enough for a difference, and what it is then.
+    fn smaller(&self) -> String {
+        let Self::Panel { plan, script, out } = *self else { return String::new() };
+        let difference = |script: &[u64]| {
+            let call = Call::Panel { plan, script, out };
+            call.difference(&call.wanted(), &call.got())
+        };
+        let few = panels::shrunk(script, |fewer| difference(fewer).is_some());
+        let words = difference(&few).unwrap_or_default();
+        format!("\nby these of its operations: {words}{}", panels::described(&few))
     }
 
     /// What is handed in, where that is more than the case's plan.
@@ -88,7 +135,7 @@ impl Call<'_> {
             Self::Dump { .. } => return String::new(),
             Self::Continue { plan, dump, .. } => &[("plan", plan), ("dump", dump)],
             Self::BookLate { plan, dump, car, .. } => &[("plan", plan), ("dump", dump), ("car", car)],
-            Self::Practice { plan, .. } => &[("plan", plan)],
+            Self::Practice { plan, .. } | Self::Panel { plan, .. } => &[("plan", plan)],
         };
         given
             .iter()
@@ -113,6 +160,9 @@ impl Display for Call<'_> {
             Self::Practice { plan, seed, count, out } => {
                 write!(f, "a day of {count} by seed {seed}, a plan of {} bytes, an output of {out} bytes", plan.len())
             }
+            Self::Panel { script, out, .. } => {
+                write!(f, "a script of {} operations, an output of {out} bytes", script.len())
+            }
         }
     }
 }
@@ -136,18 +186,11 @@ impl<'a> Bench<'a> {
             Call::Continue { .. } => &mut self.tally.continued,
             Call::BookLate { .. } => &mut self.tally.booked,
             Call::Practice { .. } => &mut self.tally.practised,
+            Call::Panel { .. } => &mut self.tally.panels,
         };
         *answers.entry(wanted.numbers[0]).or_default() += 1;
-        let of = |name: &str, byte: Option<String>| byte.map(|byte| format!("{name}: {byte}"));
-        let difference = if wanted.numbers != got.numbers {
-            Some(format!("wanted {}, got {}", numbers(&wanted.numbers), numbers(&got.numbers)))
-        } else {
-            of("dump", first_byte(&wanted.dump, &got.dump))
-                .or_else(|| of("book", first_byte(&wanted.book, &got.book)))
-                .or_else(|| of("day", first_byte(&wanted.day, &got.day)))
-        };
-        match difference {
-            Some(difference) => Err(format!("{what}: {call}: {difference}{}", call.digits())),
+        match call.difference(&wanted, &got) {
+            Some(difference) => Err(format!("{what}: {call}: {difference}{}{}", call.smaller(), call.digits())),
             None => Ok(wanted),
         }
     }

@@ -91,8 +91,7 @@ impl Accepted {
             run.go_on(allowance);
             return run.answer(book);
         }
-        let (plan, site, vehicles, profiles) = self.parts();
-        let mut simulation = TimeStepSimulation::new(site, vehicles, profiles);
+        let (plan, mut simulation) = self.by_steps();
         let used = simulation.run(allowance).expect("ids are places");
         let counts = [simulation.yet_to_arrive(), simulation.queued()];
         answer(1, used, simulation.ended(), counts, &entries(&plan, simulation.get_sessions()), book)
@@ -107,6 +106,12 @@ impl Accepted {
         site.even_shares = plan.even_shares;
         site.fleet_places = plan.places;
         (plan, site, VehicleList::new(vehicles), ChargeProfileList::new(profiles))
+    }
+
+    /// The run by steps at its start.
+    pub fn by_steps(self) -> (Plan, TimeStepSimulation) {
+        let (plan, site, vehicles, profiles) = self.parts();
+        (plan, TimeStepSimulation::new(site, vehicles, profiles))
     }
 
     /// The run by events at its start.
@@ -175,6 +180,8 @@ fn charger(place: usize, block: &plan::Charger) -> Charger {
         voltage: block.voltage,
         connectors: connectors(&block.codes),
         is_busy: false,
+        has_started: false,
+        has_ended: false,
         lead_currents_a: lead_currents(block),
     }
 }

@@ -8,6 +8,8 @@ pub mod book_late;
 pub mod calls;
 #[path = "dump_calls.rs"]
 pub mod dump_calls;
+#[path = "panel.rs"]
+pub mod panel;
 #[path = "practice.rs"]
 pub mod practice;
 #[path = "read_book.rs"]

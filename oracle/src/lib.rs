@@ -16,6 +16,7 @@ pub mod dump;
 pub mod generate;
 pub mod hot_day;
 pub mod late;
+pub mod panels;
 pub mod plan;
 pub mod program;
 pub mod recording;
@@ -32,6 +33,7 @@ mod product;
 pub use faithful::book_late::book_late;
 pub use faithful::calls::{check, run};
 pub use faithful::dump_calls::{dump, resume};
+pub use faithful::panel::{events, panel};
 pub use faithful::practice::{LEAST_DAY, practice};
 pub use faithful::read_book::read_book;
 

@@ -53,6 +53,15 @@ unsafe extern "C" {
         out_len: usize,
         numbers: *mut [u64; 11],
     );
+    fn site_panel(
+        plan: *const u8,
+        plan_len: usize,
+        script: *const u64,
+        script_len: usize,
+        out: *mut u8,
+        out_len: usize,
+        numbers: *mut [u64; 11],
+    );
     fn site_read_book(
         book: *const u8,
         book_len: usize,
@@ -117,6 +126,15 @@ pub fn practice(plan: &[u8], seed: u32, count: u32, out: &mut [u8]) -> Numbers {
     let (plan, plan_len) = (plan.as_ptr(), plan.len());
     // SAFETY: each pointer comes with the length of the memory it points to; there are always eleven numbers.
     unsafe { site_practice(plan, plan_len, seed, count, out.as_mut_ptr(), out.len(), &mut numbers) };
+    numbers
+}
+
+pub fn panel(plan: &[u8], script: &[u64], out: &mut [u8]) -> Numbers {
+    let mut numbers = [UNWRITTEN; 11];
+    let (plan, plan_len) = (plan.as_ptr(), plan.len());
+    let (script, script_len) = (script.as_ptr(), script.len());
+    // SAFETY: each pointer comes with the length of the memory it points to; there are always eleven numbers.
+    unsafe { site_panel(plan, plan_len, script, script_len, out.as_mut_ptr(), out.len(), &mut numbers) };
     numbers
 }
 

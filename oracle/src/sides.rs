@@ -2,7 +2,7 @@
 use crate::arguments::stop;
 use crate::both::Tally;
 use crate::generate::Case;
-use crate::{Numbers, cuts, days, late, program};
+use crate::{Numbers, cuts, days, late, panels, program};
 use std::cell::RefCell;
 use std::io::Write;
 use std::path::{Path, PathBuf};
@@ -11,14 +11,15 @@ use std::sync::LazyLock;
 
 #[cfg(product)]
 pub use crate::product::{
-    book_late as other_book_late, check as other_check, dump as other_dump, practice as other_practice,
-    read_book as other_read_book, resume as other_resume, run as other_run,
+    book_late as other_book_late, check as other_check, dump as other_dump, panel as other_panel,
+    practice as other_practice, read_book as other_read_book, resume as other_resume, run as other_run,
 };
 #[cfg(not(product))]
 pub use crate::slipped::{
     book_late::book_late as other_book_late,
     calls::{check as other_check, run as other_run},
     dump_calls::{dump as other_dump, resume as other_resume},
+    panel::panel as other_panel,
     practice::practice as other_practice,
     read_book::read_book as other_read_book,
 };
@@ -40,6 +41,8 @@ pub enum Side {
     Late(RefCell<Tally>),
     /// By call too: request 11's call, and check and run of what it writes.
     Practice(RefCell<Tally>),
+    /// By call too: request 12's call.
+    Panel(RefCell<Tally>),
     /// By standard input and output.
     Program(PathBuf),
 }
@@ -52,6 +55,7 @@ impl Side {
             Self::Dumps(tally) => cuts::difference(case, &mut tally.borrow_mut()),
             Self::Late(tally) => late::difference(case, &mut tally.borrow_mut()),
             Self::Practice(tally) => days::difference(case, &mut tally.borrow_mut()),
+            Self::Panel(tally) => panels::difference(case, &mut tally.borrow_mut()),
             Self::Program(path) => difference_by_program(path, case),
         }
     }

@@ -73,6 +73,8 @@ fn caps_of(power: f64, limit: f64, second: ChargerStatus) -> [f64; 2] {
         voltage: 400.0,
         connectors: vec![ConnectorType::Nacs],
         is_busy: true,
+        has_started: false,
+        has_ended: false,
     };
     let state = |status| ChargerState {
         charge_profile_id: Uuid::at(0),

@@ -4,6 +4,7 @@
 mod bookings;
 mod books;
 mod dumps;
+mod panels;
 mod practice_days;
 
 ghost use Rattle.std.specs.Prelude.{◌≡◌, length};

@@ -1,8 +1,9 @@
 // Request 11's call: a practice day.
 ghost use Rattle.std.specs.Prelude.{◌≡◌, length};
 ghost use Rattle.plan.specs.Answer.{check_numbers};
+ghost use Rattle.files.specs.Check.{Untouched};
 ghost use Rattle.practice.specs.Call.{practice_answer, practice_left};
-ghost use Rattle.practice.specs.Promises.{PlanOfCopies, EqualBytes, OnlyPairsRefuse, PastStays, Untouched};
+ghost use Rattle.practice.specs.Promises.{PlanOfCopies, EqualBytes, OnlyPairsRefuse, PastStays};
 
 use plan::answer::check_numbers;
 use practice::call::practice;

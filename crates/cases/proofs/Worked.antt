@@ -1,5 +1,5 @@
 -- Every case of the list gives what the paper says, by computation from the plan's bytes. Assumes nothing.
-use Prim.Native.Nat.{ℕ}
+use Prim.Native.Nat.{ℕ, ◌*◌}
 use mathlib.Core.Path.{◌≡◌, refl, ap, ◌∙◌, subst}
 use mathlib.Core.Bool.{Bool, true, false, cond, not}
 use mathlib.Core.List.{List, [], ◌∷◌, append-nil}
@@ -51,12 +51,18 @@ use Rattle.book_reader.specs.Reader.{damaged, session_ok, rest_ok, against_rules
 use Rattle.practice.specs.Xorshift.{step, draw}
 use Rattle.practice.specs.PracticePlan.{car_bytes, car_block, practice_plan}
 use Rattle.practice.specs.Call.{practice_answer}
+use Rattle.panel.specs.declared.script.Operation.{Operation}
+use Rattle.panel.specs.declared.script.Operation.TheVariants.{Rounds, Read, Write, Line}
+use Rattle.panel.specs.Image.{image}
+use Rattle.panel.specs.Panel.{start}
+use Rattle.panel.specs.Script.{played}
+use Rattle.panel.specs.Call.{panel_answer}
 use Rattle.plan.specs.declared.answer.Refusal.TheVariants.{Broken, CannotCharge, NotLater, NoPracticeDay}
 use Rattle.plan.specs.declared.answer.Rule.TheVariants.{Field}
 use Rattle.engine.specs.declared.session.Session.{Session}
 use Rattle.engine.specs.declared.session.Outcome.TheVariants.{Charged}
-use Rattle.cases.specs.Bay.{kwh, Bay, plan, bay, second_car, at_target, at_target_under, three_tenths, at_one_kw, nacs_capped, vans, late_car}
-use Rattle.cases.specs.Cases.{dump, refused, ended, charged, one_round, one_round_at, watt, events, steps, run, book_late, Result, if_fine, back_from, if_booked, if_made, Drawn, drawn_cars, comes, result, Worked, ◌gives◌, Holds, worked}
+use Rattle.cases.specs.Bay.{kwh, Bay, plan, bay, second_car, at_target, two_at_target, at_target_under, three_tenths, at_one_kw, nacs_capped, vans, late_car}
+use Rattle.cases.specs.Cases.{dump, refused, ended, charged, one_round, one_round_at, watt, events, steps, run, book_late, Result, if_fine, back_from, if_booked, if_made, board, script, if_played, Drawn, drawn_cars, comes, result, Worked, ◌gives◌, Holds, worked}
 use Rattle.std.specs.Prelude.{Result as Answered, Ok, Err}
 use Rattle.plan.specs.declared.answer.Refusal.{Refusal}
 
@@ -114,6 +120,10 @@ m5_fine = refl
 m10_fine : check at_target ≡ Ok tt
 unfolding check
 m10_fine = refl
+
+two_fine : check two_at_target ≡ Ok tt
+unfolding check
+two_fine = refl
 
 m12_fine : check (at_one_kw (kwh 168)) ≡ Ok tt
 unfolding check
@@ -205,6 +215,32 @@ first_drawn =
 day_drawn : drawn_cars (practice_day 1 2) ≡ first_drawn
 unfolding practice_plan header_counting counting sealed check_of words pieces car_block car_bytes draw step block le_at bytes each plan to_bits of_bits ratio
 day_drawn = refl
+
+-- ---- a panel beside M10's run
+
+abbrev car_comes : List Operation
+car_comes =
+    Write 2 7 ∷ Read 2 ∷ Rounds 1 ∷ Read 0 ∷ Read 1 ∷ Line 0 ∷ Read 4 ∷ Read 15 ∷ Write 1 1 ∷ Read 1 ∷ Line 0 ∷ Rounds 2 ∷ Read 0 ∷ Read 1 ∷ Line 0 ∷ Read 4 ∷ Read 15 ∷ []
+
+abbrev car_goes : List Operation
+car_goes = Rounds 2 ∷ Write 1 3 ∷ Read 1 ∷ Rounds 1 ∷ Read 1 ∷ Read 0 ∷ Read 4 ∷ Write 1 2 ∷ Read 1 ∷ Rounds 3 ∷ Read 0 ∷ Read 1 ∷ []
+
+abbrev misses : List Operation
+misses = Write 0 1 ∷ Write 16 1 ∷ Read 16 ∷ Line 1 ∷ []
+
+play : List Operation → Bay → List ℕ
+unfolding stop image vehicle_number le_at bytes to_bits
+play os b = played (plan b) (read b) (script os) (start (read b))
+
+allowed : List Operation → Bay → Answered (Unit {0}) Refusal
+unfolding check panel_answer
+allowed os b = panel_answer (plan b) (script os) (2 * length os)
+
+-- a script whose rounds may be asked for is played where the plan is fine
+by_board : (os : List Operation) (b : Bay) {a : Answered (Unit {0}) Refusal} {out : List ℕ} → allowed os b ≡ check b → check b ≡ a → play os b ≡ out
+    → Holds (board os (plan b) gives if_played a out)
+unfolding result check read play allowed
+by_board os b {a} {out} some answer given = ap (λ x. if_played x (play os b)) (some ∙ answer) ∙ ap (if_played a) given
 
 -- ---- the theorem
 
@@ -438,6 +474,22 @@ case_40 : Holds (at 40)
 unfolding worked result
 case_40 = ap (λ a. if_made a (practice_plan (plan (second_car 1800 10)) 1 2)) day_of_two_cars
 
+case_41 : Holds (at 41)
+unfolding worked allowed play check
+case_41 = by_board car_comes at_target refl m10_fine refl
+
+case_42 : Holds (at 42)
+unfolding worked allowed play check
+case_42 = by_board car_goes two_at_target refl two_fine refl
+
+case_43 : Holds (at 43)
+unfolding worked allowed play check
+case_43 = by_board misses at_target refl m10_fine refl
+
+case_44 : Holds (at 44)
+unfolding worked result panel_answer
+case_44 = refl
+
 pub worked_through : All Holds worked
 unfolding worked
 worked_through =
@@ -482,4 +534,8 @@ worked_through =
     and case_38
     and case_39
     and case_40
+    and case_41
+    and case_42
+    and case_43
+    and case_44
     and none

@@ -140,13 +140,18 @@ abbrev pub second_car : ℕ → ℕ → Bay
 second_car wait limit = bay_of [] (car 100 1800 10 ∷ car 200 wait limit ∷ [])
 
 -- M10 and M11: start = target = 0.5, idle 1.5, arrival 0, wait 1; by the site limit
+abbrev pub charged_car : Car
+charged_car = record { start = percent 50; target = percent 50; idle = record { 0 = ratio 3 2 }; arrival = 0; wait = 1; queue_limit = 10; fleet = 0 }
+
 abbrev pub at_target_under : Limited → Bay
-at_target_under limited =
-    limited_bay limited [] []
-    (record { start = percent 50; target = percent 50; idle = record { 0 = ratio 3 2 }; arrival = 0; wait = 1; queue_limit = 10; fleet = 0 } ∷ [])
+at_target_under limited = limited_bay limited [] [] (charged_car ∷ [])
 
 abbrev pub at_target : Bay
 at_target = at_target_under unlimited
+
+-- request 12: a second such car, which waits for the first to go
+abbrev pub two_at_target : Bay
+two_at_target = bay_of [] (charged_car ∷ record charged_car { wait = 10 } ∷ [])
 
 -- request 10: a limit of 0.3 kW, by the header's byte 12
 abbrev pub three_tenths : ℕ → Limited

@@ -1,5 +1,5 @@
--- Rules. M1 to M12 of the paper's bay, and requests 8, 1, 5, 7, 9, 10 and 11 at it, worked through: one list of cases, each with what it gives.
-use Rattle.std.specs.Prelude.{ℕ, ◌+◌, ◌-◌, ◌*◌, ◌≡◌, Bool, true, false, List, [], ◌∷◌, map, Float, set, Result as Answered, Ok, Err}
+-- Rules. M1 to M12 of the paper's bay, and requests 8, 1, 5, 7, 9, 10, 11 and 12 at it, worked through: one list of cases, each with what it gives.
+use Rattle.std.specs.Prelude.{ℕ, ◌+◌, ◌-◌, ◌*◌, ◌^◌, ◌≡◌, Bool, true, false, List, [], ◌∷◌, ◌++◌, length, map, Float, set, Result as Answered, Ok, Err}
 use Rattle.curve.specs.F64.{◌⊗◌, ratio}
 use Rattle.curve.specs.Curve.{integrate_over, curve_of}
 use Rattle.curve.specs.declared.points.Point.{Point}
@@ -32,7 +32,7 @@ use Rattle.files.specs.Call.{stop_of, book_of}
 use Rattle.files.specs.declared.book_session.BookSession.{BookSession}
 use Rattle.plan.specs.declared.answer.Rule.TheVariants.{Field}
 use Rattle.plan.specs.declared.answer.Refusal.{Refusal}
-use Rattle.plan.specs.declared.answer.Refusal.TheVariants.{Broken, CannotCharge, BookDamaged, BookAgainstRules, NotLater, NoPracticeDay}
+use Rattle.plan.specs.declared.answer.Refusal.TheVariants.{AllowanceAbove, Broken, CannotCharge, BookDamaged, BookAgainstRules, NotLater, NoPracticeDay}
 use Rattle.dump.specs.Dump.{dump_of, handled_in}
 use Rattle.late_booking.specs.LongerPlan.{longer}
 use Rattle.late_booking.specs.Call.{late_answer}
@@ -41,7 +41,14 @@ use Rattle.book_reader.specs.Reader as R
 use Rattle.practice.specs.Xorshift.{draw}
 use Rattle.practice.specs.PracticePlan.{practice_plan}
 use Rattle.practice.specs.Call.{practice_answer}
-use Rattle.cases.specs.Bay.{kw, kwh, seconds, percent, point, plan, bay, second_car, at_target, at_target_under, three_tenths, at_one_kw, nacs_capped, vans, late_car}
+use Rattle.panel.specs.declared.panel.AccessRefusal.{AccessRefusal}
+use Rattle.panel.specs.declared.panel.AccessRefusal.TheVariants.{Outside, ReadOnly}
+use Rattle.panel.specs.declared.script.Operation.{Operation}
+use Rattle.panel.specs.declared.script.Operation.TheVariants.{Rounds, Read, Write, Line}
+use Rattle.panel.specs.Panel.{start}
+use Rattle.panel.specs.Script.{answer_bytes, played}
+use Rattle.panel.specs.Call.{panel_answer}
+use Rattle.cases.specs.Bay.{kw, kwh, seconds, percent, point, plan, bay, second_car, at_target, two_at_target, at_target_under, three_tenths, at_one_kw, nacs_capped, vans, late_car}
 
 -- ---- what a case is, and what it gives
 
@@ -73,6 +80,8 @@ pub data Case : Type 0 where
   draws : ℕ → ℕ → Case
   -- a practice day of a plan's bytes, from a seed, of so many cars
   practice : ℕ → ℕ → List ℕ → Case
+  -- operations on a panel beside a run by steps of a plan's bytes
+  board : List Operation → List ℕ → Case
 
 -- a car of a practice day: its id, and what was drawn
 pub record Drawn : Type 0 where
@@ -100,6 +109,8 @@ pub data Result : Type 0 where
   drawn : List ℕ → Result
   -- the cars of a practice day
   comes : List Drawn → Result
+  -- the answers and bytes of operations
+  plays : List ℕ → Result
 
 abbrev pub if_fine : Answered (Unit {0}) Refusal → Stop → Result
 if_fine (Ok u) s = stopped s.used s.ended s.sessions
@@ -137,6 +148,20 @@ abbrev pub if_made : Answered (Unit {0}) Refusal → List ℕ → Result
 if_made (Ok u) plan = comes (drawn_cars plan)
 if_made (Err x) plan = refused x
 
+-- the number that stands for an operation
+abbrev pub word : Operation → ℕ
+word (Rounds n) = n * 2 ^ 32
+word (Read a) = a * 2 ^ 32 + 1
+word (Write a byte) = a * 2 ^ 32 + byte * 256 + 2
+word (Line c) = c * 2 ^ 32 + 3
+
+abbrev pub script : List Operation → List ℕ
+script os = map word os
+
+abbrev pub if_played : Answered (Unit {0}) Refusal → List ℕ → Result
+if_played (Ok u) out = plays out
+if_played (Err x) out = refused x
+
 unfoldable pub result : Case → Result
 result (run engine allowance plan) = if_fine (check_plan plan) (stop_of (read_plan plan) engine allowance)
 result (charge battery points start target cap) = takes (integrate_over (curve_of points) battery start target cap)
@@ -148,6 +173,7 @@ result (read_back book) = back_from (read_book book)
 result (book_late n plan car) = if_booked (late_answer plan (dump_of plan n) car 16384) (dump_of (longer plan car) n)
 result (draws seed n) = drawn (each (draw seed) 1 n)
 result (practice seed count plan) = if_made (practice_answer plan seed count 57856) (practice_plan plan seed count)
+result (board os plan) = if_played (panel_answer plan (script os) (2 * length os)) (played plan (read_plan plan) (script os) (start (read_plan plan)))
 
 infix 68 ◌gives◌
 pub data Worked : Type 0 where
@@ -258,6 +284,14 @@ first_car_at code =
 abbrev pub first_book : ℕ → List ℕ
 first_book code = book_bytes events 1 3 (first_car_at code ∷ [])
 
+-- request 12: what operations answer
+abbrev pub answers : List (Answered ℕ AccessRefusal) → Result
+answers xs = plays (in_bytes xs)
+  where
+    in_bytes : List (Answered ℕ AccessRefusal) → List ℕ
+    in_bytes [] = []
+    in_bytes (x ∷ xs) = answer_bytes x ++ in_bytes xs
+
 -- ---- the list
 
 unfoldable pub worked : List Worked
@@ -332,4 +366,18 @@ worked =
     ∷ []) ∷
     practice 0 2 (plan bay) gives refused NoPracticeDay ∷
     practice 1 2 (plan (second_car 1800 10)) gives refused NoPracticeDay ∷
+    -- request 12: both bits enabled at M10's bay. After a round the cabinet is occupied and idle, started is pending and the line raised, and the
+    -- car's id and energy show; started is cleared, and the line falls. After two more it is free, ended is pending, and the line raised
+    board
+    (Write 2 7 ∷ Read 2 ∷ Rounds 1 ∷ Read 0 ∷ Read 1 ∷ Line 0 ∷ Read 4 ∷ Read 15 ∷ Write 1 1 ∷ Read 1 ∷ Line 0 ∷ Rounds 2 ∷ Read 0 ∷ Read 1 ∷ Line 0 ∷ Read 4 ∷ Read 15 ∷ [])
+    (plan at_target) gives
+    answers (Ok 0 ∷ Ok 3 ∷ Ok 0 ∷ Ok 5 ∷ Ok 1 ∷ Ok 1 ∷ Ok 4 ∷ Ok 63 ∷ Ok 0 ∷ Ok 0 ∷ Ok 0 ∷ Ok 0 ∷ Ok 0 ∷ Ok 2 ∷ Ok 1 ∷ Ok 0 ∷ Ok 0 ∷ []) ∷
+    -- with a second car that waits: in round 2 the first goes and it plugs in, both events in one round; ended is cleared, and comes again with it
+    board
+    (Rounds 2 ∷ Write 1 3 ∷ Read 1 ∷ Rounds 1 ∷ Read 1 ∷ Read 0 ∷ Read 4 ∷ Write 1 2 ∷ Read 1 ∷ Rounds 3 ∷ Read 0 ∷ Read 1 ∷ [])
+    (plan two_at_target) gives
+    answers (Ok 0 ∷ Ok 0 ∷ Ok 0 ∷ Ok 0 ∷ Ok 3 ∷ Ok 3 ∷ Ok 5 ∷ Ok 0 ∷ Ok 1 ∷ Ok 0 ∷ Ok 0 ∷ Ok 3 ∷ []) ∷
+    -- a byte that cannot be written, and addresses past the bay's one cabinet; more than 10,000,000 rounds in all are refused by 2
+    board (Write 0 1 ∷ Write 16 1 ∷ Read 16 ∷ Line 1 ∷ []) (plan at_target) gives answers (Err ReadOnly ∷ Err Outside ∷ Err Outside ∷ Err Outside ∷ []) ∷
+    board (Rounds 9000000 ∷ Rounds 1000001 ∷ []) (plan at_target) gives refused AllowanceAbove ∷
     []

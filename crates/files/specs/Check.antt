@@ -24,6 +24,11 @@ abbrev pub OfFine : Type 0 → Result (Unit {0}) Refusal → Type 0
 OfFine P (Ok u) = P
 OfFine P (Err x) = Unit {0}
 
+-- a refused call leaves a buffer untouched
+abbrev pub Untouched : List ℕ → List ℕ → Result (Unit {0}) Refusal → Type 0
+Untouched old new (Ok u) = Unit {0}
+Untouched old new (Err x) = new ≡ old
+
 -- the pairs are tested where the blocks are fine
 unfoldable pub check_plan : List ℕ → Result (Unit {0}) Refusal
 check_plan plan = then_check (check_blocks plan) (pair_answer plan (failing_pair (read_plan plan)))

@@ -60,7 +60,7 @@ fn kept(there: bool, x: u64) -> u64
 
 // A number of a vehicle's block: its id at 0, its profile's id at 4.
 #[tactic(auto, unfolding(crate::specs::BookSession::vehicle_number))]
-fn vehicle_number(plan: &CountedPlan, v: usize, at: usize) -> u32
+pub fn vehicle_number(plan: &CountedPlan, v: usize, at: usize) -> u32
     requires { at + 4 ≤ 512 }
     ensures { result ≡ vehicle_number plan.now.file v at }
 {

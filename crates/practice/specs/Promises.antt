@@ -12,11 +12,6 @@ use Rattle.files.specs.Check.{OfFine, check_plan}
 use Rattle.practice.specs.Xorshift.{draw}
 use Rattle.practice.specs.PracticePlan.{drawn_arrival, drawn_start, drawn_target, cars_at, practice_plan}
 
--- a refused call leaves the output untouched
-abbrev pub Untouched : List ℕ → List ℕ → Result (Unit {0}) Refusal → Type 0
-Untouched old new (Ok u) = Unit {0}
-Untouched old new (Err x) = new ≡ old
-
 -- the bytes of two blocks or files are the same from `from` up to, not including, `to`
 abbrev pub Same : List ℕ → List ℕ → ℕ → ℕ → Type 0
 Same a b from to = (k : ℕ) → from ≤ k → k < to → slice_index a k ≡ slice_index b k

@@ -1,7 +1,8 @@
 // The call that makes a practice day.
 ghost use Rattle.std.specs.Prelude.{◌≡◌, length};
+ghost use Rattle.files.specs.Check.{Untouched};
 ghost use Rattle.practice.specs.Call.{practice_answer, practice_after};
-ghost use Rattle.practice.specs.Promises.{PlanOfCopies, EqualBytes, OnlyPairsRefuse, PastStays, Untouched};
+ghost use Rattle.practice.specs.Promises.{PlanOfCopies, EqualBytes, OnlyPairsRefuse, PastStays};
 
 use crate::practice_plan::put_practice_plan;
 use files::check::check_plan;

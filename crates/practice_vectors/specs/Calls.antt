@@ -1,9 +1,9 @@
 -- What is read of a recorded call, what it answers, and what it leaves in the output. Bytes past the record's end count as 0.
-use Rattle.std.specs.Prelude.{ℕ, List, [], ◌∷◌, ◌++◌, length, take, drop, flat_map}
-use Rattle.plan.specs.Bytes.{le_at, bytes}
+use Rattle.std.specs.Prelude.{ℕ, List, ◌++◌, length, take, drop}
+use Rattle.plan.specs.Bytes.{le_at}
 use Rattle.plan.specs.Answer.{check_numbers}
 use Rattle.practice.specs.Call.{practice_answer, practice_left}
-use Rattle.recorded.specs.Replay.{changes, after_changes, digest_of}
+use Rattle.recorded.specs.Replay.{changes, after_changes}
 
 -- ---- the call that comes first in a record
 
@@ -37,7 +37,3 @@ numbers_of plan seed count out = check_numbers (practice_answer plan seed count 
 -- the output, of which the first bytes were lent
 abbrev pub out_after : List ℕ → ℕ → ℕ → ℕ → List ℕ → List ℕ
 out_after plan seed count room out = practice_left plan seed count (take room out) ++ drop room out
-
--- what is written of it
-unfoldable pub answer_of : List ℕ → List ℕ → List ℕ → List ℕ
-answer_of numbers plan out = flat_map (bytes 8) (numbers ++ digest_of plan ∷ digest_of out ∷ [])

@@ -4,7 +4,8 @@
 #![tactic(auto)]
 
 ghost use Rattle.std.specs.Prelude.{◌≡◌, drop, take};
-ghost use Rattle.practice_vectors.specs.Calls.{seed_of, count_of, room_of, length_of, plan_after, after_call, numbers_of, out_after, answer_of};
+ghost use Rattle.recorded.specs.Replay.{answer_of};
+ghost use Rattle.practice_vectors.specs.Calls.{seed_of, count_of, room_of, length_of, plan_after, after_call, numbers_of, out_after};
 
 use plan::answer::check_numbers;
 use practice::call::practice;

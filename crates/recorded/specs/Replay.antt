@@ -1,7 +1,16 @@
 -- What is read of a record, and what is written of a call. Numbers are little-endian; bytes past a list's end count as 0.
-use Rattle.std.specs.Prelude.{◌≡◌, ℕ, zero, suc, ◌+◌, ◌*◌, ◌%◌, ◌^◌, List, drop, take, fold, Result, Ok, Err, MatchResult}
+use Rattle.std.specs.Prelude.{◌≡◌, ℕ, zero, suc, ◌+◌, ◌*◌, ◌%◌, ◌^◌, List, [], ◌∷◌, ◌++◌, drop, take, fold, flat_map, Result, Ok, Err, MatchResult}
 use lib.Seq.{sets}
-use Rattle.plan.specs.Bytes.{le_at}
+use Rattle.plan.specs.Bytes.{bytes, le_at}
+use Rattle.plan.specs.Search.{each}
+
+-- the k-th number of eight bytes in a record, from 0
+abbrev pub u64_at : List ℕ → ℕ → ℕ
+u64_at rest k = le_at 8 rest (8 * k)
+
+-- the first n of them
+abbrev pub u64s : ℕ → List ℕ → List ℕ
+u64s n rest = each (u64_at rest) 0 n
 
 -- a buffer with the change that comes first in a record: a 16-bit place, a byte count, and as many bytes, as far as record and buffer go
 unfoldable pub change : List ℕ → List ℕ → List ℕ
@@ -28,6 +37,10 @@ mix sum x = (31 * sum + x) % 2 ^ 64
 -- the digest of numbers
 unfoldable pub digest_of : List ℕ → ℕ
 digest_of xs = fold mix 0 xs
+
+-- what is written of a call: its numbers, and the digests of its two buffers, eight bytes each
+unfoldable pub answer_of : List ℕ → List ℕ → List ℕ → List ℕ
+answer_of numbers first second = flat_map (bytes 8) (numbers ++ digest_of first ∷ digest_of second ∷ [])
 
 -- n calls, one after the other from a state and a record, each where the one before left both: the answer is Ok, or the error of the first that fails
 unfoldable pub Calls : {F R E : Type 0} → (F → R → Result (Unit {0}) E → F → R → Type 0) → ℕ → F → R → Result (Unit {0}) E → Type 0

@@ -2,12 +2,12 @@
 // what the program writes of a call.
 #![tactic(auto)]
 
-ghost use Rattle.std.specs.Prelude.{◌≡◌, ◌<◌, ◌∷◌, ◌++◌, ℕ, List, [], drop, flat_map, take};
+ghost use Rattle.std.specs.Prelude.{◌≡◌, ◌<◌, ◌∷◌, ◌++◌, ◌*◌, ℕ, List, [], drop, flat_map, length, take};
 ghost use Rattle.std.specs.Fn.{CalledAtMut};
 ghost use Rattle.std.specs.List.{AllZip};
 ghost use Rattle.std.proofs.lemmas.List.Edits.{sets};
 ghost use Rattle.plan.specs.Bytes.{bytes, le_at};
-ghost use Rattle.recorded.specs.Replay.{Calls, after_changes, changes, digest_of, mix};
+ghost use Rattle.recorded.specs.Replay.{Calls, after_changes, changes, digest_of, mix, u64s};
 
 use plan::bytes::{put, put_bytes};
 use std::io;
@@ -62,6 +62,16 @@ impl<'a> Record<'a> {
     {
         let low = u64::from(self.u32());
         low + 4294967296 * u64::from(self.u32())
+    }
+
+    // Fills the buffer with the numbers that come next, eight bytes each.
+    pub fn u64s(&mut self, buffer: &mut [u64])
+        ensures numbers { buffer.new ≡ u64s (length buffer.old) self.old.rest.now }
+        ensures left { self.new.rest.now ≡ drop (8 * length buffer.old) self.old.rest.now }
+    {
+        for x in buffer.iter_mut() {
+            *x = self.u64();
+        }
     }
 
     // The next n bytes, as far as the record goes.

@@ -6,13 +6,16 @@ use oracle::book::LEAST_BOOK;
 use oracle::draft::{Car, Draft, charger, profile};
 use oracle::draw::Draw;
 use oracle::dump::LEAST_DUMP;
+use oracle::panels::Operation::{self, Read, Rounds};
 use oracle::share_lists::most_passes;
 use oracle::sides::{
-    OTHER, other_book_late, other_check, other_dump, other_practice, other_read_book, other_resume, other_run,
+    OTHER, other_book_late, other_check, other_dump, other_panel, other_practice, other_read_book, other_resume,
+    other_run,
 };
 use oracle::{Header, LEAST_DAY, Numbers, Sessions, generate, program};
 use original::shares::kilowatts;
 use std::hint::black_box;
+use std::mem::discriminant;
 
 const REPETITIONS: usize = 15;
 /// Calls are repeated within one measurement until it takes about this long, in nanoseconds.
@@ -40,8 +43,13 @@ enum Call {
     ReadBook,
     /// Of so many cars.
     Practice(u32),
+    /// So many rounds one by one, each with a read.
+    RoundByRound(u32),
+    /// So many rounds at once, and then five reads.
+    AtOnce(u32),
 }
 
+#[derive(Clone, Copy)]
 enum Per {
     Round,
     Call,
@@ -55,6 +63,7 @@ struct Side {
     book_late: fn(&[u8], &[u8], &[u8], &mut [u8]) -> Numbers,
     read_book: fn(&[u8], &mut Header, &mut Sessions) -> Numbers,
     practice: fn(&[u8], u32, u32, &mut [u8]) -> Numbers,
+    panel: fn(&[u8], &[u64], &mut [u8]) -> Numbers,
 }
 
 const SIDES: [Side; 2] = [
@@ -66,6 +75,7 @@ const SIDES: [Side; 2] = [
         book_late: oracle::book_late,
         read_book: oracle::read_book,
         practice: oracle::practice,
+        panel: oracle::panel,
     },
     Side {
         check: other_check,
@@ -75,9 +85,12 @@ const SIDES: [Side; 2] = [
         book_late: other_book_late,
         read_book: other_read_book,
         practice: other_practice,
+        panel: other_panel,
     },
 ];
 const MOST: u32 = 10_000_000;
+/// Of the rows that say a round's time.
+const ROUNDS: u32 = 100_000;
 
 fn main() {
     let part = part_of_a_name();
@@ -93,14 +106,20 @@ fn main() {
     for work in works {
         println!("{}", row(&work.name, [(&SIDES[0], &work), (&SIDES[1], &work)]));
     }
-    let pairs: Vec<[Work; 2]> = by_mode().into_iter().filter(|[_, even]| even.name.contains(&part)).collect();
+    by_the_other(&part, "The limit scaled and shared evenly", ["scaled", "shared evenly"], by_mode());
+    by_the_other(&part, "Runs by steps, and scripts of as many rounds", ["run", "script"], by_script());
+}
+
+/// A table of pairs whose second name has the words given, both by the other side.
+fn by_the_other(part: &str, what: &str, [first, second]: [&str; 2], mut pairs: Vec<[Work; 2]>) {
+    pairs.retain(|[_, work]| work.name.contains(part));
     if !pairs.is_empty() {
-        println!("\nThe limit scaled and shared evenly, both by {OTHER}:\n");
-        println!("| work | scaled | shared evenly | shared evenly / scaled |");
+        println!("\n{what}, both by {OTHER}:\n");
+        println!("| work | {first} | {second} | {second} / {first} |");
         println!("|---|---|---|---|");
     }
-    for [scaled, even] in &pairs {
-        println!("{}", row(&scaled.name, [(&SIDES[1], scaled), (&SIDES[1], even)]));
+    for [one, other] in &pairs {
+        println!("{}", row(&one.name, [(&SIDES[1], one), (&SIDES[1], other)]));
     }
 }
 
@@ -134,6 +153,8 @@ struct Lent {
     header: Header,
     sessions: Sessions,
     day: Vec<u8>,
+    script: Vec<u64>,
+    answers: Vec<u8>,
 }
 
 impl Lent {
@@ -147,7 +168,10 @@ impl Lent {
             _ => {}
         }
         let (new_dump, day) = (vec![0; LEAST_DUMP], vec![0; LEAST_DAY]);
-        Self { book, dump, car: late_car(&work.plan), new_dump, header: [0; 4], sessions: [0; 1024], day }
+        let script = script(&work.call);
+        let answers = vec![0; 2 * script.len()];
+        let (header, sessions) = ([0; 4], [0; 1024]);
+        Self { book, dump, car: late_car(&work.plan), new_dump, header, sessions, day, script, answers }
     }
 
     fn call(&mut self, side: &Side, work: &Work) -> Numbers {
@@ -163,6 +187,9 @@ impl Lent {
             }
             Call::ReadBook => (side.read_book)(book, black_box(&mut self.header), black_box(&mut self.sessions)),
             Call::Practice(count) => (side.practice)(plan, 1, count, black_box(&mut self.day)),
+            Call::RoundByRound(_) | Call::AtOnce(_) => {
+                (side.panel)(plan, black_box(&self.script), black_box(&mut self.answers))
+            }
         }
     }
 }
@@ -173,12 +200,12 @@ fn measure(pair: [(&Side, &Work); 2]) -> [Vec<f64>; 2] {
     let mut call = |k: usize| lent[k].call(pair[k].0, pair[k].1);
     let answers = [0, 1].map(&mut call);
     let name = &pair[0].1.name;
-    assert_eq!(answers[0], answers[1], "{name}");
-    assert_eq!(answers[0][0], 0, "{name} is refused");
-    let units = match pair[0].1.per {
-        Per::Round => answers[0][3] as f64,
-        Per::Call => 1.0,
-    };
+    assert_eq!(answers.map(|numbers| numbers[0]), [0; 2], "{name} is refused");
+    let units = [0, 1].map(|k| units(pair[k].1, &answers[k]));
+    assert_eq!(units[0], units[1], "{name}");
+    // A script's numbers are not a run's.
+    let [first, second] = pair.map(|(_, work)| discriminant(&work.call));
+    assert!(first != second || answers[0] == answers[1], "{name}");
     let calls = [0, 1].map(|k| {
         let started = thread_time();
         call(k);
@@ -192,10 +219,28 @@ fn measure(pair: [(&Side, &Work); 2]) -> [Vec<f64>; 2] {
             for _ in 0..calls[k] {
                 black_box(call(k));
             }
-            times[k].push((thread_time() - started) / f64::from(calls[k]) / units);
+            times[k].push((thread_time() - started) / f64::from(calls[k]) / units[k]);
         }
     }
     times
+}
+
+fn units(work: &Work, numbers: &Numbers) -> f64 {
+    match (&work.per, &work.call) {
+        (Per::Call, _) => 1.0,
+        (Per::Round, Call::RoundByRound(rounds)) => f64::from(*rounds),
+        (Per::Round, _) => numbers[3] as f64,
+    }
+}
+
+/// The script of a call that has one.
+fn script(call: &Call) -> Vec<u64> {
+    let operations: Vec<Operation> = match *call {
+        Call::RoundByRound(rounds) => (0..rounds).flat_map(|k| [Rounds(1), Read(k % 16)]).collect(),
+        Call::AtOnce(rounds) => [Rounds(rounds)].into_iter().chain((0..5).map(Read)).collect(),
+        _ => Vec::new(),
+    };
+    operations.iter().map(|operation| operation.number(0)).collect()
 }
 
 #[repr(C)]
@@ -238,6 +283,7 @@ fn works() -> Vec<Work> {
             works.push(work);
         }
     }
+    works.extend(by_script().into_iter().map(|[_, script]| script));
     works.push(parked(1));
     works.push(parked(4));
     works.push(day());
@@ -316,7 +362,7 @@ fn rounds(chargers: u32, points: u32, high: bool, limited: bool) -> Work {
         if high { "high" } else { "low" },
         if limited { ", limit binds" } else { "" }
     );
-    Work { name, plan: steady(chargers, points, high, limited), call: Call::Run(1, 100_000), per: Per::Round }
+    Work { name, plan: steady(chargers, points, high, limited), call: Call::Run(1, ROUNDS), per: Per::Round }
 }
 
 /// Plans whose limit is scaled to, each with the same plan whose limit is shared evenly.
@@ -332,6 +378,23 @@ fn by_mode() -> Vec<[Work; 2]> {
     let mixed = rated(Draft::of(&steady(32, 30, false, false)).unwrap(), (0..32).map(|k| 700 + 40 * k), 38.4);
     pairs.push(both_modes("steps: 32 busy, 30 points, low SOC, limit binds, mixed requests".into(), mixed, 100_000));
     pairs.push(both_modes("steps: 32 busy, 1 point, limit binds, most passes".into(), stairs(), 3_000));
+    pairs
+}
+
+/// Runs by steps, each with a script of as many rounds.
+fn by_script() -> Vec<[Work; 2]> {
+    let with_script = |run: Work, call, how: &str| {
+        let script = Work { name: format!("{}, {how}", run.name), plan: run.plan.clone(), call, per: run.per };
+        [run, script]
+    };
+    let mut pairs = Vec::new();
+    for chargers in [1, 4, 32] {
+        let run = rounds(chargers, 30, false, false);
+        pairs.push(with_script(run, Call::RoundByRound(ROUNDS), "round by round with a read"));
+    }
+    for run in [day(), far_apart()] {
+        pairs.push(with_script(run, Call::AtOnce(MOST), "at once and five reads"));
+    }
     pairs
 }
 

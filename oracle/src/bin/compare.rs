@@ -8,8 +8,10 @@
 //! `--books` compares request 5's call on books of drawn lists and of runs, and on damaged ones.
 //! `--late` compares request 7's call, a late booking, at cuts of each case's run by events.
 //! `--practice` compares request 11's call, a practice day, and check and run of the days that are written.
+//! `--panel` compares request 12's call, scripts for the cabinets' registers beside each case's run by steps.
 //! `--shares` compares a program that shares lists of requests, request 10's shares by themselves, on drawn lists.
-//! `--sweep` damages a small plan, or book, the block of a late car or a plan of one vehicle, at every byte in place of drawn cases.
+//! `--sweep` damages a small plan, or book, the block of a late car or a plan of one vehicle, at every byte in place of drawn cases; of a panel
+//! it reads and writes every address.
 //! `--trace` names each case on standard error before it runs, for a side that may crash or hang.
 use oracle::arguments::Words;
 use oracle::both::Tally;
@@ -18,14 +20,14 @@ use oracle::generate::{self, Case, SHAPES};
 use oracle::share_lists::List;
 use oracle::shrink::shrink;
 use oracle::sides::{OTHER, Side, difference_on_input, output_of};
-use oracle::{blocks, books, days, late, program, share_lists, words};
+use oracle::{blocks, books, days, late, panels, program, share_lists, words};
 use std::collections::BTreeMap;
 use std::ops::Range;
 use std::path::{Path, PathBuf};
 use std::process::ExitCode;
 use std::time::Instant;
 
-const USAGE: &str = "compare [--cases N] [--seed S] [--from INDEX] [--shape NAME] [--dumps | --books | --late | --practice | --shares PATH | --program PATH] [--sweep] [--count] [--trace]";
+const USAGE: &str = "compare [--cases N] [--seed S] [--from INDEX] [--shape NAME] [--dumps | --books | --late | --practice | --panel | --shares PATH | --program PATH] [--sweep] [--count] [--trace]";
 
 struct Options {
     cases: u64,
@@ -37,6 +39,7 @@ struct Options {
     books: bool,
     late: bool,
     practice: bool,
+    panel: bool,
     shares: Option<PathBuf>,
     sweep: bool,
     count: bool,
@@ -54,6 +57,7 @@ fn options() -> Options {
         books: false,
         late: false,
         practice: false,
+        panel: false,
         shares: None,
         sweep: false,
         count: false,
@@ -71,6 +75,7 @@ fn options() -> Options {
             "--books" => options.books = true,
             "--late" => options.late = true,
             "--practice" => options.practice = true,
+            "--panel" => options.panel = true,
             "--shares" => options.shares = Some(words.needed("PATH").into()),
             "--sweep" => options.sweep = true,
             "--count" => options.count = true,
@@ -78,10 +83,10 @@ fn options() -> Options {
             _ => words.wrong(format!("{word} is unknown")),
         }
     }
-    let by_call = [options.dumps, options.books, options.late, options.practice];
+    let by_call = [options.dumps, options.books, options.late, options.practice, options.panel];
     let by_program = [options.shares.is_some(), options.program.is_some()];
     if by_call.into_iter().chain(by_program).filter(|given| *given).count() > 1 {
-        words.wrong("--dumps, --books, --late, --practice, --shares and --program are compared one at a time");
+        words.wrong("--dumps, --books, --late, --practice, --panel, --shares and --program are compared one at a time");
     }
     if options.books && options.shape.is_some() {
         words.wrong("--books has cases of every shape");
@@ -114,12 +119,16 @@ fn main() -> ExitCode {
     if options.practice && options.sweep {
         return sweep_steps(&options, days::steps(), days::swept);
     }
+    if options.panel && options.sweep {
+        return sweep_steps(&options, panels::steps(), panels::swept);
+    }
     let started = Instant::now();
     let side = match &options.program {
         Some(path) => Side::Program(path.clone()),
         None if options.dumps => Side::Dumps(Default::default()),
         None if options.late => Side::Late(Default::default()),
         None if options.practice => Side::Practice(Default::default()),
+        None if options.panel => Side::Panel(Default::default()),
         None => Side::Linked,
     };
     let name = options.program.as_ref().map_or(OTHER.to_string(), |path| path.display().to_string());
@@ -159,7 +168,7 @@ fn main() -> ExitCode {
         *answers.entry(oracle::check(&case.plan)[0]).or_insert(0) += 1;
     }
     let mut answers = format!("answers of check by number: {}", by_number(&answers));
-    if let Side::Dumps(tally) | Side::Late(tally) | Side::Practice(tally) = &side {
+    if let Side::Dumps(tally) | Side::Late(tally) | Side::Practice(tally) | Side::Panel(tally) = &side {
         answers += &format!("\n{}", of_calls(&tally.borrow()));
     }
     summed_up(compared, different, started, &answers)
@@ -173,10 +182,12 @@ fn of_calls(tally: &Tally) -> String {
         ("continue", &tally.continued),
         ("practice day", &tally.practised),
         ("check of a day", &tally.days),
+        ("panel", &tally.panels),
     ];
     let made = calls.into_iter().filter(|(_, answers)| !answers.is_empty());
     let answers: Vec<String> = made.map(|(name, answers)| format!("of {name}: {}", by_number(answers))).collect();
-    answers.join("; ")
+    let seen = if tally.panels.is_empty() { String::new() } else { format!("; {}", tally.seen) };
+    answers.join("; ") + &seen
 }
 
 fn summed_up(compared: u64, different: u64, started: Instant, answers: &str) -> ExitCode {
@@ -204,7 +215,7 @@ fn compare_books(options: &Options) -> ExitCode {
     by_index(options, indices, &mut tally, differs, |tally| format!("answers by number: {}", by_number(tally)))
 }
 
-/// Request 7 or 11 on one small plan, with every byte of the car or of the plan.
+/// Request 7, 11 or 12 on one small plan, with every byte of the car or of the plan, or every address.
 fn sweep_steps(options: &Options, steps: u64, swept: fn(u64, u64, &mut Tally) -> Option<String>) -> ExitCode {
     let differs = |index, tally: &mut Tally| swept(options.seed, index, tally);
     by_index(options, 0..steps, &mut Tally::default(), differs, of_calls)
@@ -270,11 +281,12 @@ fn by_number(answers: &BTreeMap<u64, u64>) -> String {
 }
 
 fn report(side: &Side, index: u64, case: Case, what: &str) {
-    // Dumps are of the run by events, whatever the case's own engine.
+    // Dumps are of the run by events, and panels of that by steps, whatever the case's own engine.
     let described = |case: &Case| match side {
         Side::Dumps(_) | Side::Late(_) | Side::Practice(_) => {
             words::describe(&Case { engine: 0, allowance: 10_000_000, ..case.clone() })
         }
+        Side::Panel(_) => words::describe(&Case { engine: 1, allowance: 10_000_000, ..case.clone() }),
         _ => words::describe(case),
     };
     println!("DIFFERENCE in case {index}: {what}\n{}", described(&case));

@@ -261,20 +261,23 @@ module _ (p : Plan) where
   -- ---- a round
 
   -- between rounds no car is left to be released: each holds an open session
-  known_free : (f : F) → HeldBut [] f → Known f → (i : ℕ) → Told i (is_free (get_or f.places i empty).status) f.sessions
+  unfinished : (f : F) → HeldBut [] f → Known f → (i : ℕ) → is_finished (get_or f.places i empty).status ≡ false
   unfolding HeldBut
-  known_free f h k i = go (get_or f.places i empty).status refl
+  unfinished f h k i = go (get_or f.places i empty).status refl
     where
-      go : (s : Status) → (get_or f.places i empty).status ≡ s → Told i (is_free s) f.sessions
-      go Free e = rw e at (k i)
-      go Charging e = rw e at (k i)
-      go Idle e = rw e at (k i)
+      go : (s : Status) → (get_or f.places i empty).status ≡ s → is_finished s ≡ false
+      go Free e = refl
+      go Charging e = refl
+      go Idle e = refl
       go Finished e =
           ⊎_elim (λ (z : ⊥). absurd z)
           (λ (held : Holds i (get_or f.places i empty) f.sessions).
           let x = get_or f.sessions (get_or f.places i empty).session missing in
           not_both (open_at i x) (rw (held.is_open, held.there, eq-eqb i i refl)) (all_at f.sessions _ missing held.inside (told_none (rw e at (k i)))))
           (h i (rw e))
+
+  known_free : (f : F) → HeldBut [] f → Known f → (i : ℕ) → Told i (is_free (get_or f.places i empty).status) f.sessions
+  known_free f h k i = rw (unfinished_left (get_or f.places i empty).status (unfinished f h k i)) at (k i)
 
   free_charged : (f : F) (i : ℕ) → is_free (get_or (powered p f).places i empty).status ≡ is_free (get_or f.places i empty).status
   free_charged f i = same_free (same_charged p.limit p.curve f.places) i
@@ -330,11 +333,15 @@ module _ (p : Plan) where
   start_left (suc n) zero = empty_left
   start_left (suc n) (suc i) = start_left n i
 
+  known_run : (n : ℕ) → Known (run p n).site
+  known_run n = (run_keeps p known_keeps n (kept_start p, λ i. rw start_left nothing)).1
+
   told_run : (n i : ℕ) → Told i (is_free (get_or (run p n).site.places i empty).status) (run p n).site.sessions
-  told_run n i =
-      known_free (run p n).site (run_reached p n).held
-      (run_keeps p known_keeps n (kept_start p, λ i. rw start_left nothing)).1
-      i
+  told_run n i = known_free (run p n).site (run_reached p n).held (known_run n) i
+
+  -- between rounds no charger is finished
+  pub none_finished_between : (n i : ℕ) → is_finished (get_or (run p n).site.places i empty).status ≡ false
+  none_finished_between n i = unfinished (run p n).site (run_reached p n).held (known_run n) i
 
   place_free : (ss : List ChargerState) (c : ℕ) → c < length ss → free_at p (steps p) ss c ≡ is_free (get_or ss c empty).status
   place_free [] c l = absurd (not-suc-le-zero l)

@@ -163,7 +163,7 @@ module _ (t : Plan) where
   stays zero s h = refl
   stays (suc n) s h = rw h
 
-  after_add : (n k : ℕ) (s : State) → after t (n + k) s ≡ after t k (after t n s)
+  pub after_add : (n k : ℕ) (s : State) → after t (n + k) s ≡ after t k (after t n s)
   after_add zero k s = rw zero-add
   after_add (suc n) k s = rw suc-add (go (ended t s) refl (after_add n k (round t s)))
     where

@@ -1,8 +1,7 @@
 -- `practice_vectors::Buffers::answer` meets its contract. Assumes nothing.
 use Rattle.std.proofs.Common.{◌≡◌}
 use Rattle.std.specs.List.{each_same}
-use Rattle.recorded.specs.Replay.{digest_of}
-use Rattle.practice_vectors.specs.Calls.{answer_of}
+use Rattle.recorded.specs.Replay.{answer_of, digest_of}
 use Rattle.practice_vectors.proofs.Buffers.answer.Goals as goal
 
 pub returns-clause-written : goal.returns-clause-written

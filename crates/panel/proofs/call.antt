@@ -1,0 +1,3 @@
+-- Laws that the functions of the module and of others cite.
+pub mod Played
+pub mod Promised

@@ -1,0 +1,2 @@
+-- Laws that the functions of the module and of others cite.
+pub mod Grow

@@ -1,0 +1,2 @@
+-- Refinement: vocabulary of the crate's own functions.
+pub mod Seen
