@@ -2,7 +2,7 @@
 #![tactic(auto)]
 
 pub mod call;
-pub mod events;
+mod events;
 pub mod panel;
-pub mod registers;
-pub mod script;
+mod registers;
+mod script;

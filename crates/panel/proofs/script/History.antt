@@ -1,7 +1,8 @@
 -- What is pending and enabled after some operations is what the history tells. Assumes nothing.
-use Rattle.std.proofs.Common.{◌≡◌, ℕ, zero, suc, ◌+◌, ◌*◌, ◌/◌, ◌%◌, ◌<◌, ◌≤◌, Bool, true, false, cond, not, ◌&&◌, ◌||◌, ltb, leb, eqb, List, [], ◌∷◌, length, sym, refl, ap, ◌∙◌, subst, add-zero, add-suc, add-one, zero-add, arith, le-leb, leb-true, ltb-false, eqb-true, eq-eqb, ne_eqb}
+use Rattle.std.proofs.Common.{◌≡◌, ℕ, zero, suc, ◌+◌, ◌*◌, ◌/◌, ◌%◌, ◌<◌, ◌≤◌, Bool, true, false, cond, not, ◌&&◌, ◌||◌, ltb, leb, eqb, List, [], ◌∷◌, length, sym, refl, ap, ◌∙◌, subst, add-zero, add-suc, add-one, zero-add, arith, le-leb, ltb-false, eqb-true, eq-eqb, ne_eqb}
 use borrow.Author.Tests.{eqb-false}
 use Rattle.std.proofs.Math.Bool.{and-false, and-true, or-false, or_assoc}
+use Rattle.std.proofs.lemmas.Bool.{lt-leb}
 use native.Mathlib.Nat.{add_assoc}
 use Rattle.charger.proofs.Lists.{by_cond}
 use Rattle.engine.specs.Plan.{Plan}
@@ -11,12 +12,13 @@ use Rattle.engine.proofs.timestep.RunMoves.{after_add}
 use Rattle.panel.specs.declared.registers.Bits.{Bits}
 use Rattle.panel.specs.declared.script.Operation.{Operation}
 use Rattle.panel.specs.declared.script.Operation.TheVariants.{Rounds, Read, Write, Line}
-use Rattle.panel.specs.Registers.{bits_of, no_bits, with_cleared, with_enable}
+use Rattle.panel.specs.Registers.{Cabinet, bits_of, no_bits, with_cleared, with_enable}
 use Rattle.panel.specs.Events.{CabinetEvent, comes, started, ended as freed}
 use Rattle.panel.specs.Panel.{Panel, noticed, start, rounds, with_cabinet, with_byte, write}
-use Rattle.panel.specs.Script.{rounds_in, done}
+use Rattle.panel.specs.Script.{asked, rounds_in, done}
 use Rattle.panel.specs.History.{clears, clearing, enabled, came, by_history}
 use Rattle.panel.proofs.events.Grow.{Grows, started_grows, freed_grows}
+use Rattle.panel.proofs.script.Steps.{done_run}
 use Rattle.panel.proofs.panel.Noticed.{grew, not_grown, rounds_are}
 
 -- the address of a cabinet's byte, at pending or enable
@@ -30,6 +32,10 @@ at_offset a c k some few e = go (eqb (a % 16) k) refl
 elsewhere : (a c k : ℕ) → k ≤ 2 → eqb c (a / 16) ≡ false → eqb a (16 * c + k) ≡ false
 elsewhere a c k few e = ne_eqb a (16 * c + k) (λ q. eqb-false c (a / 16) e (omega (arith, few)))
 
+-- what a write to an address leaves of the cabinet at c
+abbrev after_write : ℕ → ℕ → ℕ → Cabinet → Cabinet
+after_write a byte c x = cond (eqb a (16 * c + 1)) (with_cleared byte x) (cond (eqb a (16 * c + 2)) (with_enable byte x) x)
+
 module _ (p : Plan) (plan : List ℕ) where
   -- the state after some operations
   abbrev pub done_all : List Operation → Panel → Panel
@@ -38,16 +44,16 @@ module _ (p : Plan) (plan : List ℕ) where
 
   -- a write, at one cabinet of the plan
   written_at : (a byte c : ℕ) (s : Panel) → c < length p.chargers
-      → (write p a byte s).cabinets c ≡ cond (eqb a (16 * c + 1)) (with_cleared byte (s.cabinets c)) (cond (eqb a (16 * c + 2)) (with_enable byte (s.cabinets c)) (s.cabinets c))
+      → (write p a byte s).cabinets c ≡ after_write a byte c (s.cabinets c)
   written_at a byte c s h = go (ltb (a / 16) (length p.chargers)) refl
     where
       here : (t : Bool) → eqb c (a / 16) ≡ t → cond t (with_byte (a % 16) byte (s.cabinets (a / 16))) (s.cabinets c)
-          ≡ cond (eqb a (16 * c + 1)) (with_cleared byte (s.cabinets c)) (cond (eqb a (16 * c + 2)) (with_enable byte (s.cabinets c)) (s.cabinets c))
+          ≡ after_write a byte c (s.cabinets c)
       here true e = rw (← at_offset a c 1 (omega arith) (omega arith) e, ← at_offset a c 2 (omega arith) (omega arith) e, eqb-true c (a / 16) e) refl
       here false e = rw (elsewhere a c 1 (omega arith) e, elsewhere a c 2 (omega arith) e) refl
 
       go : (t : Bool) → ltb (a / 16) (length p.chargers) ≡ t → (cond t (with_cabinet (a / 16) (with_byte (a % 16) byte (s.cabinets (a / 16))) s) s).cabinets c
-          ≡ cond (eqb a (16 * c + 1)) (with_cleared byte (s.cabinets c)) (cond (eqb a (16 * c + 2)) (with_enable byte (s.cabinets c)) (s.cabinets c))
+          ≡ after_write a byte c (s.cabinets c)
       go true e = here (eqb c (a / 16)) refl
       go false e =
           let apart : eqb c (a / 16) ≡ false = ne_eqb c (a / 16) (λ q. omega (arith, ltb-false (a / 16) (length p.chargers) e)) in
@@ -57,14 +63,7 @@ module _ (p : Plan) (plan : List ℕ) where
     -- nothing came behind all rounds
     none_came : (n : ℕ) → n ≤ k → came p e c k n ≡ false
     none_came zero h = refl
-    none_came (suc n) h = rw (none_came n (omega arith), late) refl
-      where
-        late : leb k n ≡ false
-        late = go (leb k n) refl
-          where
-            go : (t : Bool) → leb k n ≡ t → t ≡ false
-            go true q = absurd (omega (arith, leb-true k n q))
-            go false q = refl
+    none_came (suc n) h = rw (none_came n (omega arith), lt-leb k n (omega arith))
 
     -- some rounds more
     came_more : (n m : ℕ) → k ≤ n → (came p e c k n || comes e c (run p n) (after p m (run p n))) ≡ came p e c k (n + m)
@@ -88,10 +87,14 @@ module _ (p : Plan) (plan : List ℕ) where
 
   -- ---- one cabinet after some operations
 
+  -- the cabinet at c after n rounds, by how many were asked for before the last clearing of each bit
+  abbrev by_clearings : (c n s' e' : ℕ) → Bits → Cabinet
+  by_clearings c n s' e' bits = record { pending = record { started = came p started c s' n; ended = came p freed c e' n }; enable = bits }
+
   -- what a state has, told by how many rounds were asked for, and how many before the last clearing of each bit
   pub record Tells (c n s' e' : ℕ) (bits : Bits) (s : Panel) : Type 0 where
     pub run : s.run ≡ run p n
-    pub cabinet : s.cabinets c ≡ record { pending = record { started = came p started c s' n; ended = came p freed c e' n }; enable = bits }
+    pub cabinet : s.cabinets c ≡ by_clearings c n s' e' bits
     pub started : s' ≤ n
     pub ended : e' ≤ n
 
@@ -104,7 +107,7 @@ module _ (p : Plan) (plan : List ℕ) where
     tells_rounds : (m : ℕ) {n s' e' : ℕ} {bits : Bits} {s : Panel} → Tells c n s' e' bits s → Tells c (n + m) s' e' bits (rounds p m s)
     tells_rounds m {n} {s'} {e'} {bits} {s} t =
         let more : after p m s.run ≡ run p (n + m) = rw t.run (sym (after_add p n m (T.start p))) in
-        let begun : noticed c s.run (after p m s.run) (s.cabinets c) ≡ record { pending = record { started = came p started c s' (n + m); ended = came p freed c e' (n + m) }; enable = bits }
+        let begun : noticed c s.run (after p m s.run) (s.cabinets c) ≡ by_clearings c (n + m) s' e' bits
         = rw (t.run, t.cabinet)
         (λ i. record {
           pending = record {
@@ -126,15 +129,8 @@ module _ (p : Plan) (plan : List ℕ) where
         }
       where
         go : (u v : Bool) → eqb a (16 * c + 1) ≡ u → eqb a (16 * c + 2) ≡ v
-            → cond u (with_cleared byte (record { pending = record { started = came p started c s' n; ended = came p freed c e' n }; enable = bits }))
-            (cond v (with_enable byte (record { pending = record { started = came p started c s' n; ended = came p freed c e' n }; enable = bits })) (record { pending = record { started = came p started c s' n; ended = came p freed c e' n }; enable = bits }))
-            ≡ record {
-              pending = record {
-                started = came p started c (cond (u && (bits_of byte).started) n s') n;
-                ended = came p freed c (cond (u && (bits_of byte).ended) n e') n;
-              };
-              enable = cond v (bits_of byte) bits;
-            }
+            → cond u (with_cleared byte (by_clearings c n s' e' bits)) (cond v (with_enable byte (by_clearings c n s' e' bits)) (by_clearings c n s' e' bits))
+            ≡ by_clearings c n (cond (u && (bits_of byte).started) n s') (cond (u && (bits_of byte).ended) n e') (cond v (bits_of byte) bits)
         go true true h k = absurd (omega (arith, eqb-true a (16 * c + 1) h, eqb-true a (16 * c + 2) k))
         go true false h k =
             λ i. record {
@@ -162,14 +158,11 @@ module _ (p : Plan) (plan : List ℕ) where
     pub by_history_is : (os : List Operation) → (done_all os (start p)).cabinets c ≡ by_history p c os
     by_history_is os = rw zero-add at (told os at_start).cabinet
 
-  -- the run is that of as many rounds as were asked for
-  run_more : (os : List Operation) (n : ℕ) (s : Panel) → s.run ≡ run p n → (done_all os s).run ≡ run p (n + rounds_in os)
-  run_more [] n s h = rw add-zero h
-  run_more (Rounds m ∷ os) n s h =
-      rw (← add_assoc n m (rounds_in os)) (run_more os (n + m) (rounds p m s) (ap (λ (r : Panel). r.run) (rounds_are p m s) ∙ rw h (sym (after_add p n m (T.start p)))))
-  run_more (Read a ∷ os) n s h = rw zero-add (run_more os n s h)
-  run_more (Write a byte ∷ os) n s h = rw zero-add (run_more os n (write p a byte s) (by_cond (λ (r : Panel). r.run ≡ run p n) (ltb (a / 16) (length p.chargers)) h h))
-  run_more (Line d ∷ os) n s h = rw zero-add (run_more os n s h)
+  -- the run goes on by the rounds that were asked for
+  done_all_run : (os : List Operation) (s : Panel) → (done_all os s).run ≡ after p (rounds_in os) s.run
+  done_all_run [] s = refl
+  done_all_run (o ∷ os) s =
+      done_all_run os (done plan p o s) ∙ (ap (after p (rounds_in os)) (done_run p plan o s) ∙ sym (after_add p (asked o) (rounds_in os) s.run))
 
   pub run_is : (os : List Operation) → (done_all os (start p)).run ≡ run p (rounds_in os)
-  run_is os = rw zero-add at (run_more os 0 (start p) refl)
+  run_is os = done_all_run os (start p)

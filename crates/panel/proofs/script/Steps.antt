@@ -24,19 +24,16 @@ module _ (p : Plan) where
   time_after zero s = omega arith
   time_after (suc n) s = by_cond (λ (r : T.State). r.time ≤ s.time + suc n) (ended p s) (omega arith) (omega (arith, time_after n (T.round p s)))
 
-  -- an operation takes no more seconds than it asks for rounds
-  pub done_time : (plan : List ℕ) (o : Operation) (s : Panel) → (done plan p o s).run.time ≤ s.run.time + asked o
-  done_time plan (Rounds n) s = rw rounds_are (time_after n s.run)
-  done_time plan (Read a) s = omega arith
-  done_time plan (Write a byte) s = by_cond (λ (r : Panel). r.run.time ≤ s.run.time + 0) (ltb (a / 16) (length p.chargers)) (omega arith) (omega arith)
-  done_time plan (Line c) s = omega arith
-
-  -- and the run goes on by as many
+  -- an operation's run goes on by the rounds that it asks for
   pub done_run : (plan : List ℕ) (o : Operation) (s : Panel) → (done plan p o s).run ≡ after p (asked o) s.run
   done_run plan (Rounds n) s = rw rounds_are
   done_run plan (Read a) s = refl
   done_run plan (Write a byte) s = by_cond (λ (r : Panel). r.run ≡ s.run) (ltb (a / 16) (length p.chargers)) refl refl
   done_run plan (Line c) s = refl
+
+  -- and takes no more seconds
+  pub done_time : (plan : List ℕ) (o : Operation) (s : Panel) → (done plan p o s).run.time ≤ s.run.time + asked o
+  done_time plan o s = rw done_run (time_after (asked o) s.run)
 
   -- its answer and byte are stored, and the rest is played
   pub step_stored : (plan script out : List ℕ) (s : Panel) (i : ℕ) {pair all : List ℕ} → i < length script
