@@ -2,13 +2,13 @@
 ghost use Rattle.std.specs.Prelude.{◌≤◌, length};
 
 use crate::vehicle::{Vehicle, no_vehicle};
-use arrayvec::ArrayVec;
+use fixed_vec::FixedVec;
 
 // The vehicles in plan order, and the queue places of fleets 1 to 64. That the vector holds no more than 64, its own contracts say only where
 // it is lent.
-#[derive(Drop)]
+#[derive(Clone, Copy)]
 pub struct VehicleList {
-    pub vehicles: ArrayVec<Vehicle, 64>,
+    pub vehicles: FixedVec<Vehicle, 64>,
     pub queue_places: [u8; 64],
     ghost few: { length vehicles.items ≤ 64 },
 }

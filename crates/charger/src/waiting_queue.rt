@@ -8,12 +8,12 @@ ghost use Rattle.charger.specs.Code.Queue.{waiting, Taken};
 
 use crate::vehicle::fits;
 use crate::vehicle_list::VehicleList;
-use arrayvec::ArrayVec;
+use fixed_vec::FixedVec;
 
 // By their places in the plan, first in, first out.
-#[derive(Drop)]
+#[derive(Clone, Copy)]
 pub struct WaitingQueue {
-    pub ids: ArrayVec<usize, 64>,
+    pub ids: FixedVec<usize, 64>,
 }
 
 impl WaitingQueue {
@@ -21,7 +21,7 @@ impl WaitingQueue {
         ensures { waiting result ≡ [] }
     {
         WaitingQueue {
-            ids: ArrayVec::new(),
+            ids: FixedVec::new(),
         }
     }
 

@@ -1,0 +1,3 @@
+pub mod FixedVec
+pub mod Cells
+pub mod Lends
