@@ -12,16 +12,16 @@ ghost use Rattle.engine.specs.Code.Simulation.{pending, plan_of, model, InTime, 
 use crate::events::{Event, EventType};
 use crate::session::{Outcome, Session};
 use crate::site::{Simulation, Site};
-use arrayvec::ArrayVec;
+use fixed_vec::FixedVec;
 use curve::float::ceil;
 use curve::units::Seconds;
 
 // Who stands at each charger, by the vehicle's place in the plan, beside the rest of the site's state. What its functions ask of a time, a
 // place and the room left is asked by clause: in the middle of an event it holds with one more or less (`Admits`).
-#[derive(Drop)]
+#[derive(Clone, Copy)]
 pub struct State {
     pub simulation: Simulation,
-    pub places: ArrayVec<Option<usize>, 32>,
+    pub places: FixedVec<Option<usize>, 32>,
 }
 
 // The whole seconds from plug-in to unplug: charge duration rounded up, and idle rounded up.
@@ -63,7 +63,7 @@ impl State {
         requires { All InTime (listed site.now.vehicles) }
         ensures { model result ≡ start (plan_of site.now) }
     {
-        let mut places = ArrayVec::<Option<usize>, 32>::new();
+        let mut places = FixedVec::<Option<usize>, 32>::new();
         for _c in 0..site.chargers.len() {
             places.push(None);
         }

@@ -5,7 +5,7 @@ ghost use Rattle.charger.specs.Code.Vehicles.{listed};
 ghost use Rattle.engine.specs.Code.Simulation.{InTime};
 ghost use Rattle.engine.specs.Events.{rank, place_of, before, push, Ordered, generate};
 
-use arrayvec::ArrayVec;
+use fixed_vec::FixedVec;
 use charger::vehicle_list::VehicleList;
 use std::marker::Model;
 
@@ -57,21 +57,29 @@ fn pops_before(a: Event, b: Event) -> bool
 }
 
 // The pending events, the next to pop last, and how many were handled before them. A plan of 64 vehicles has at most 192 events.
-#[derive(Drop)]
+#[derive(Clone, Copy)]
 pub struct EventQueue {
-    items: ArrayVec<Event, 192>,
+    items: FixedVec<Event, 192>,
     handled: usize,
 }
 
 impl Model for EventQueue {
     ghost use Rattle.std.specs.Prelude.{◌+◌, ◌≤◌, length, reverse};
+    ghost use Rattle.std.proofs.lemmas.List.{reverse-reverse};
     ghost use Rattle.engine.specs.Code.Events.{Queued};
 
     ghost Value = { Queued };
 
-    ghost view = { λ q. record { pending = reverse q.items.items; handled = q.handled } };
+    ghost view = { λ q. record { pending = reverse q.items.items; handled = q.handled; room = q.items.room } };
 
     ghost invariant = { λ q. q.handled + length q.items.items ≤ 192 };
+
+    ghost inverse = { λ q. record { items = record { items = reverse q.pending; room = q.room }; handled = q.handled } };
+
+    ghost inverse_ok = { λ q h i. record {
+      items = record { items = reverse-reverse q.items.items i; room = q.items.room };
+      handled = q.handled;
+    } };
 }
 
 impl EventQueue {
@@ -156,7 +164,7 @@ fn behind(events: &[Event], e: Event) -> Option<usize>
 // Puts an event among those that stand in order, the next to pop first, so that vehicles in the order of their arrivals find their place at
 // the back and move little. `EventQueue::push` would do, and proves, but takes nine times as long for these, and a third longer for drawn ones.
 #[tactic(auto, using(crate::proofs::events::Push::push_back))]
-fn put(events: &mut ArrayVec<Event, 192>, e: Event)
+fn put(events: &mut FixedVec<Event, 192>, e: Event)
     requires room { length events.old.items < 192 }
     requires order { Ordered events.old.items }
     ensures { events.new.items ≡ push e events.old.items }
@@ -173,7 +181,7 @@ pub fn generate_arrival_events(vehicles: &VehicleList) -> EventQueue
     ensures handled { result.handled ≡ 0 }
     ensures bound { length result.pending ≤ 128 }
 {
-    let mut events = ArrayVec::<Event, 192>::new();
+    let mut events = FixedVec::<Event, 192>::new();
     for (v, x) in vehicles.vehicles.iter().enumerate() {
         put(
             &mut events,

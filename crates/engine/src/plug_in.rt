@@ -14,17 +14,17 @@ ghost use Rattle.engine.specs.Code.Steps.{held, Running, Changes, released_if};
 use crate::events::{Event, EventType};
 use crate::session::{Outcome, Session};
 use crate::site::{Simulation, Site};
-use arrayvec::ArrayVec;
+use fixed_vec::FixedVec;
 use charger::vehicle::Vehicle;
 use curve::units::{Kw, Kwh, Seconds};
 use power::charger_state::{ChargerState, Status};
 
 // What stands at each charger, beside the rest of the site's state. What a run promises of it, `Running`, is asked by clause: it speaks of
 // the site too, and in the middle of an event there is room for one more.
-#[derive(Drop)]
+#[derive(Clone, Copy)]
 pub struct State {
     pub simulation: Simulation,
-    pub bank: ArrayVec<ChargerState, 32>,
+    pub bank: FixedVec<ChargerState, 32>,
 }
 
 // The session of a car that plugs in.

@@ -10,7 +10,7 @@ ghost use Rattle.engine.specs.Code.Simulation.{booked, battery_at, connectors_of
 
 use crate::events::{EventQueue, generate_arrival_events};
 use crate::session::{Outcome, Session, uncharged};
-use arrayvec::ArrayVec;
+use fixed_vec::FixedVec;
 use charger::charge_profile_list::Profiles;
 use charger::charger::{Charger, no_charger, rated_power};
 use charger::vehicle::{Vehicle, fits};
@@ -25,10 +25,10 @@ use power::power::Limit;
 // These stand by the profile's place: a struct of battery and curve would be taken apart by all but `output`. The rows are the array that
 // document 01 names: as many of its first ones count as there are chargers. What the engines ask of the vehicles'
 // times is asked by clause: a site is read, and its rated powers and durations found, without it.
-#[derive(Drop)]
+#[derive(Clone, Copy)]
 pub struct Site {
     pub vehicles: VehicleList,
-    pub chargers: ArrayVec<Charger, 32>,
+    pub chargers: FixedVec<Charger, 32>,
     pub rows: [[bool; 5]; 32],
     pub batteries: [Kwh; 16],
     pub curves: [Point; 512],
@@ -44,10 +44,10 @@ impl Site {
     {
         Site {
             vehicles: VehicleList {
-                vehicles: ArrayVec::new(),
+                vehicles: FixedVec::new(),
                 queue_places: [0; 64],
             },
-            chargers: ArrayVec::new(),
+            chargers: FixedVec::new(),
             rows: [[false; 5]; 32],
             batteries: [Kwh(0.0); 16],
             curves: [ORIGIN; 512],
@@ -131,11 +131,11 @@ impl Site {
 }
 
 // The state of a site but for what stands at its chargers.
-#[derive(Drop)]
+#[derive(Clone, Copy)]
 pub struct Simulation {
     pub events: EventQueue,
     pub queue: WaitingQueue,
-    pub sessions: ArrayVec<Session, 64>,
+    pub sessions: FixedVec<Session, 64>,
 }
 
 impl Simulation {
@@ -147,7 +147,7 @@ impl Simulation {
         Simulation {
             events: generate_arrival_events(vehicles),
             queue: WaitingQueue::new(),
-            sessions: ArrayVec::new(),
+            sessions: FixedVec::new(),
         }
     }
 

@@ -18,7 +18,7 @@ ghost use Rattle.engine.specs.Code.Steps.{Running, SiteWithin, step_state, GoesO
 use crate::plug_in::State;
 use crate::rising_site::RisingSite;
 use crate::site::{Simulation, Site};
-use arrayvec::ArrayVec;
+use fixed_vec::FixedVec;
 use power::charger_state::ChargerState;
 use power::power::Spun;
 use power::rounds::charge_until;
@@ -31,7 +31,7 @@ impl State {
         ensures start { step_state result 0 ≡ start (plan_of site.now) }
         ensures fit { Running site.now 0 result }
     {
-        let mut bank = ArrayVec::<ChargerState, 32>::new();
+        let mut bank = FixedVec::<ChargerState, 32>::new();
         for _c in 0..site.chargers.len() {
             bank.push(ChargerState::default());
         }
@@ -106,7 +106,7 @@ impl State {
 }
 
 // The state of a run after the units up to `time`, and whether it has ended. A run can go on from it.
-#[derive(Drop)]
+#[derive(Clone, Copy)]
 pub struct StepRun {
     pub state: State,
     pub time: u64,

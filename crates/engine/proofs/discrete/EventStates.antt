@@ -1,7 +1,7 @@
 -- From the event engine's state to the model's.
 use Rattle.std.proofs.Common.{◌≡◌, ℕ, ◌^◌, ◌<◌, ◌≤◌, Bool, true, false, ◌&&◌, List, [], ◌∷◌, ◌++◌, length, get_or, set, replicate, sym, refl, ap, ◌∙◌, arith}
 use Rattle.std.specs.Prelude.{Some, None}
-use Rattle.arrayvec.specs.ArrayVec.{ArrayVec}
+use Rattle.fixed_vec.specs.FixedVec.{FixedVec}
 use Rattle.charger.specs.declared.vehicle.Vehicle.{Vehicle}
 use Rattle.charger.specs.declared.waiting_queue.WaitingQueue.{WaitingQueue}
 use Rattle.charger.specs.First.{first}
@@ -30,8 +30,8 @@ pub same_model : {s t : Discrete.State} → s.site ≡ t.site → s.handled ≡ 
 same_model f h = λ i. record { site = f i; handled = h i }
 
 -- a run's start
-pub begins : (p : Plan) {r : Simulation} {l : ArrayVec Occupant} → Starts p.vehicles r → l.items ≡ replicate (length p.chargers) no_car → model (record { simulation = r; places = l }) ≡ start p
-begins p {r} s e = same_model (rw e (starts p (events p) s)) s.handled
+pub begins : (p : Plan) {r : Simulation} (l : FixedVec Occupant) → Starts p.vehicles r → l.items ≡ replicate (length p.chargers) no_car → model (record { simulation = r; places = l }) ≡ start p
+begins p {r} l s e = same_model (rw e (starts p (events p) s)) s.handled
 
 -- a change is also made if it is another's at this state
 pub becomes_as : {change other : SiteState Occupant → SiteState Occupant} {s r : State} → other (held s) ≡ change (held s) → Becomes change s r → Becomes other s r
@@ -39,7 +39,7 @@ becomes_as e b = record { site = b.site ∙ sym e; handled = b.handled }
 
 module _ (p : Plan) (time : ℕ) where
   -- a vehicle takes a charger
-  pub plugs : (v c : ℕ) (x : Session) {s r : State} {q : Queued} {xs : ArrayVec Session} → x ≡ charged_session p time v c
+  pub plugs : (v c : ℕ) (x : Session) {s r : State} {q : Queued} {xs : FixedVec Session} → x ≡ charged_session p time v c
       → q.pending ≡ push (unplug x.unplug v c) (pending s.simulation.events) → q.handled ≡ s.simulation.events.handled → xs.items ≡ booked s.simulation.sessions ++ (x ∷ [])
       → r.simulation ≡ record { events = q; queue = s.simulation.queue; sessions = xs } → r.places.items ≡ set s.places.items c (car v)
       → Becomes (start_charging p (events p) time v c) s r
@@ -69,7 +69,7 @@ module _ (p : Plan) (time : ℕ) where
         → Becomes (handle p (events p) Arrival time v c) s r
     arrives-turned {r} f b same =
         record {
-          site = ap (λ (l : ArrayVec Occupant). Rattle.engine.specs.Code.Simulation.site_state r.simulation l.items) same
+          site = ap (λ (l : FixedVec Occupant). Rattle.engine.specs.Code.Simulation.site_state r.simulation l.items) same
               ∙ changed_site s.places.items b ∙ sym (arrival-turned p (events p) (held s) time v c free x answered who f);
           handled = ap (λ (q : Queued). q.handled) b.events;
         }

@@ -2,7 +2,7 @@
 use Rattle.std.proofs.Common.{◌≡◌, ℕ, ◌+◌, ◌<◌, ◌≤◌, Bool, true, false, ◌&&◌, eqb, ltb, leb, List, [], ◌∷◌, ◌++◌, length, get_or, set, sym, refl, ap, ◌∙◌, arith, length-append, length-set, ltb-false, ltb-true}
 use Rattle.std.specs.Prelude.{Some, None}
 use lib.ListN.{get_or-eq_default}
-use Rattle.arrayvec.specs.ArrayVec.{ArrayVec}
+use Rattle.fixed_vec.specs.FixedVec.{FixedVec}
 use Rattle.charger.specs.declared.vehicle.Vehicle.{Vehicle}
 use Rattle.charger.specs.First.{Found, nobody, found, first}
 use Rattle.charger.specs.Lists.{tick, count, All, none, also}
@@ -92,7 +92,7 @@ module _ (site : Site) (time v c : ℕ) (x : Session) (state : ChargerState) {s 
 
 module _ (site : Site) {change : Change} {s r : State} (b : Changed change s.simulation r.simulation) (same : r.bank ≡ s.bank) where
   changed_held : held r ≡ record { pending = pending s.simulation.events; queue = change.queue; places = s.bank.items; sessions = with_written change.written (booked s.simulation.sessions) }
-  changed_held = same_site (ap pending b.events) b.queue (ap (λ (l : ArrayVec ChargerState). l.items) same) b.sessions
+  changed_held = same_site (ap pending b.events) b.queue (ap (λ (l : FixedVec ChargerState). l.items) same) b.sessions
 
   fit_changed : {more : ℕ} → Running site more s → length change.queue + length (with_written change.written (booked s.simulation.sessions)) ≤ length (waiting s.simulation.queue) + length (booked s.simulation.sessions) + more
       → All Small change.queue → Running site 0 r

@@ -2,7 +2,7 @@
 use Rattle.std.proofs.Common.{◌≡◌, ℕ, suc, ◌+◌, ◌<◌, ◌≤◌, ◌≢◌, Bool, true, false, cond, List, [], ◌∷◌, ◌++◌, length, get_or, take, set, sym, refl, ap, ◌∙◌, add-zero, add-suc, suc-add, zero-add, add-one, arith, set-set, length-set, length-take-le, get_or-set_other, take_all}
 use Rattle.std.specs.Prelude.{Option, Some, None}
 use lib.Seq.{take-suc}
-use Rattle.arrayvec.specs.ArrayVec.{ArrayVec}
+use Rattle.fixed_vec.specs.FixedVec.{FixedVec}
 use Rattle.charger.specs.declared.waiting_queue.WaitingQueue.{WaitingQueue}
 use Rattle.charger.specs.First.{Found, nobody, found, first}
 use Rattle.charger.specs.Code.Queue.{waiting, Taken}
@@ -178,10 +178,10 @@ module _ (site : Site) (time : ℕ) (s : State) where
 -- ---- with the sessions closed before
 
 -- the state with those sessions
-abbrev pub resessioned : State → ArrayVec Session → State
+abbrev pub resessioned : State → FixedVec Session → State
 resessioned s xs = record { simulation = record { events = s.simulation.events; queue = s.simulation.queue; sessions = xs }; bank = s.bank }
 
-module _ (site : Site) (time : ℕ) (s : State) (xs : ArrayVec Session) (w : xs.items ≡ closed time s.bank.items (booked s.simulation.sessions)) where
+module _ (site : Site) (time : ℕ) (s : State) (xs : FixedVec Session) (w : xs.items ≡ closed time s.bank.items (booked s.simulation.sessions)) where
   pub fit_closed : length xs.items ≡ length (booked s.simulation.sessions) → Running site 0 s → Running site 0 (resessioned s xs)
   fit_closed e f =
       record {

@@ -1,7 +1,7 @@
 -- The start of a run by steps.
 use Rattle.std.proofs.Common.{◌≡◌, ◌≤◌, [], length, replicate, refl, ap, arith}
 use lib.ListN.{length-replicate}
-use Rattle.arrayvec.specs.ArrayVec.{ArrayVec}
+use Rattle.fixed_vec.specs.FixedVec.{FixedVec}
 use Rattle.charger.specs.Lists.{none}
 use Rattle.charger.specs.Code.Vehicles.{listed}
 use Rattle.power.specs.declared.charger_state.ChargerState.{ChargerState}
@@ -20,7 +20,7 @@ use Rattle.engine.proofs.timestep.RunMoves.{lawful}
 use Rattle.engine.proofs.timestep.LoopTurn.{at}
 use Rattle.engine.proofs.events.Generated.{all_generate}
 
-module _ (site : Site) {r : Simulation} {bank : ArrayVec ChargerState} (s : Starts (listed site.vehicles) r) (cleared : bank.items ≡ replicate (length site.chargers.items) empty) where
+module _ (site : Site) {r : Simulation} (bank : FixedVec ChargerState) (s : Starts (listed site.vehicles) r) (cleared : bank.items ≡ replicate (length site.chargers.items) empty) where
   abbrev begun : State
   begun = record { simulation = r; bank = bank }
 

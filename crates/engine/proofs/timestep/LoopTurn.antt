@@ -1,6 +1,6 @@
 -- A turn of the run's loop: the rounds up to the next event or the first finished charger, at once.
 use Rattle.std.proofs.Common.{◌≡◌, ℕ, zero, suc, ◌+◌, ◌-◌, ◌<◌, ◌≤◌, Bool, true, false, cond, ◌&&◌, leb, List, [], ◌∷◌, length, sym, refl, ap, ◌∙◌, subst, arith, leb-false, leb-true}
-use Rattle.arrayvec.specs.ArrayVec.{ArrayVec}
+use Rattle.fixed_vec.specs.FixedVec.{FixedVec}
 use Rattle.curve.specs.declared.points.Point.{Point}
 use Rattle.power.specs.declared.charger_state.ChargerState.{ChargerState}
 use Rattle.engine.specs.declared.events.Event.{Event}
@@ -133,7 +133,7 @@ module _ (t : Plan) where
 -- ---- with no event due the rounds spin on
 
 -- the state with those chargers
-abbrev pub rebanked : Stands → ArrayVec ChargerState → Stands
+abbrev pub rebanked : Stands → FixedVec ChargerState → Stands
 rebanked s b = record { simulation = s.simulation; bank = b }
 
 rebanked_as : (s t : Stands) → t.simulation ≡ s.simulation → rebanked s t.bank ≡ t

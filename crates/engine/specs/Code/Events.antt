@@ -1,10 +1,13 @@
 -- Refinement: the queue of events as the list of the pending ones, in the order in which they pop, and how many were handled before them.
 use Rattle.std.specs.Prelude.{◌≡◌, ℕ, ◌+◌, List, [], ◌∷◌, Bool, true, false, cond, nat_le, Option, Some, MatchOption}
+use Rattle.fixed_vec.specs.FixedVec.{Room}
 use Rattle.engine.specs.declared.events.Event.{Event}
 
+-- the room behind them is there for copies: no clause says anything of it
 pub record Queued : Type 0 where
   pub pending : List Event
   pub handled : ℕ
+  pub room : Room Event
 
 -- the first pending event is gone, and counts as handled; or none was pending
 abbrev pub Pops : Queued → Queued → Option Event → Type 0

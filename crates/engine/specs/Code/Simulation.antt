@@ -8,7 +8,7 @@ use Rattle.charger.specs.Code.Profiles.{curve_at}
 use Rattle.charger.specs.Code.Queue.{waiting}
 use Rattle.charger.specs.Vehicle.{compatible}
 use Rattle.charger.specs.Code.Vehicles.{listed}
-use Rattle.arrayvec.specs.ArrayVec.{ArrayVec}
+use Rattle.fixed_vec.specs.FixedVec.{FixedVec}
 use Rattle.engine.specs.declared.discrete.State.{State}
 use Rattle.engine.specs.declared.events.Event.{Event}
 use Rattle.engine.specs.declared.session.Session.{Session}
@@ -25,7 +25,7 @@ use Rattle.engine.specs.Code.Events.{Queued}
 abbrev pub pending : Queued → List Event
 pending q = q.pending
 
-abbrev pub booked : ArrayVec Session → List Session
+abbrev pub booked : FixedVec Session → List Session
 booked s = s.items
 
 -- the state of the site, with what stands at its chargers
