@@ -7,8 +7,8 @@ ghost use Rattle.book_reader.specs.Code.Read.{header_of, reading, Beside};
 use crate::blocks::damaged;
 use crate::fields::header_ok;
 use crate::sessions::BookSessions;
-use arrayvec::ArrayVec;
 use files::book_session::BookSession;
+use fixed_vec::FixedVec;
 use plan::answer::Refusal;
 use plan::bytes::{u8_at, u16_at, u64_at};
 
@@ -22,10 +22,10 @@ pub struct BookHeader {
 }
 
 // A book that was read.
-#[derive(Drop)]
+#[derive(Clone, Copy)]
 pub struct ReadBook {
     pub header: BookHeader,
-    pub sessions: ArrayVec<BookSession, 64>,
+    pub sessions: FixedVec<BookSession, 64>,
 }
 
 // Tests a book: 15 over the whole of it, then 16.

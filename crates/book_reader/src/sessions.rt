@@ -8,8 +8,8 @@ ghost use Rattle.book_reader.specs.Reader.{session_ok, rest_ok};
 ghost use Rattle.book_reader.specs.Code.Read.{Room};
 
 use crate::fields::session_ok;
-use arrayvec::ArrayVec;
 use files::book_session::BookSession;
+use fixed_vec::FixedVec;
 use plan::bytes::{u8_at, u16_at, u32_at, u64_at};
 use plan::fields::zeros;
 
@@ -111,10 +111,10 @@ impl BookSessions<'_> {
     }
 
     // Reads all sessions.
-    pub fn read(self) -> ArrayVec<BookSession, 64>
+    pub fn read(self) -> FixedVec<BookSession, 64>
         ensures { result.items ≡ sessions_in self.entry.book.now }
     {
-        let mut all = ArrayVec::new();
+        let mut all = FixedVec::new();
         for k in 0..self.count {
             all.push(self.session_in(k));
         }

@@ -5,10 +5,10 @@ ghost use Rattle.book_reader.specs.Totals.{energy_with, totals_of, totals_answer
 ghost use Rattle.book_reader.specs.Code.Sums.{added as Sums·added};
 
 use crate::reader::read_book;
-use arrayvec::ArrayVec;
 use curve::float::of_bits;
 use curve::units::Kwh;
 use files::book_session::{BookSession, charged};
+use fixed_vec::FixedVec;
 use plan::answer::Refusal;
 
 // How many sessions are open, charged, reneged and balked, the energy of the charged ones, and the longest wait.
@@ -48,7 +48,7 @@ impl BookTotals {
 }
 
 // The totals of some sessions.
-fn sum_up(all: &ArrayVec<BookSession, 64>) -> BookTotals
+fn sum_up(all: &FixedVec<BookSession, 64>) -> BookTotals
     ensures { result ≡ totals_of all.now.items }
 {
     let sessions = all.as_slice();

@@ -12,9 +12,9 @@ ghost use Rattle.engine.specs.Code.Simulation.{pending, plan_of, model, InTime, 
 use crate::events::{Event, EventType};
 use crate::session::{Outcome, Session};
 use crate::site::{Simulation, Site};
-use fixed_vec::FixedVec;
 use curve::float::ceil;
 use curve::units::Seconds;
+use fixed_vec::FixedVec;
 
 // Who stands at each charger, by the vehicle's place in the plan, beside the rest of the site's state. What its functions ask of a time, a
 // place and the room left is asked by clause: in the middle of an event it holds with one more or less (`Admits`).

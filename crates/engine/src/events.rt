@@ -5,8 +5,8 @@ ghost use Rattle.charger.specs.Code.Vehicles.{listed};
 ghost use Rattle.engine.specs.Code.Simulation.{InTime};
 ghost use Rattle.engine.specs.Events.{rank, place_of, before, push, Ordered, generate};
 
-use fixed_vec::FixedVec;
 use charger::vehicle_list::VehicleList;
+use fixed_vec::FixedVec;
 use std::marker::Model;
 
 #[derive(Clone, Copy, PartialEq, Default)]

@@ -14,9 +14,9 @@ ghost use Rattle.engine.specs.Code.Steps.{held, Running, Changes, released_if};
 use crate::events::{Event, EventType};
 use crate::session::{Outcome, Session};
 use crate::site::{Simulation, Site};
-use fixed_vec::FixedVec;
 use charger::vehicle::Vehicle;
 use curve::units::{Kw, Kwh, Seconds};
+use fixed_vec::FixedVec;
 use power::charger_state::{ChargerState, Status};
 
 // What stands at each charger, beside the rest of the site's state. What a run promises of it, `Running`, is asked by clause: it speaks of

@@ -10,7 +10,6 @@ ghost use Rattle.engine.specs.Code.Simulation.{booked, battery_at, connectors_of
 
 use crate::events::{EventQueue, generate_arrival_events};
 use crate::session::{Outcome, Session, uncharged};
-use fixed_vec::FixedVec;
 use charger::charge_profile_list::Profiles;
 use charger::charger::{Charger, no_charger, rated_power};
 use charger::vehicle::{Vehicle, fits};
@@ -19,6 +18,7 @@ use charger::waiting_queue::WaitingQueue;
 use curve::charge_profile::{ChargingOutput, integrate_over};
 use curve::points::{ORIGIN, Point};
 use curve::units::{Kw, Kwh};
+use fixed_vec::FixedVec;
 use power::power::Limit;
 
 // What the engines read of a plan: its vehicles, its chargers, the connectors of each in a row, and by profile the battery and the curve.

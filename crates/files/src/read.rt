@@ -8,7 +8,6 @@ ghost use Rattle.plan.specs.Places.{charger_count};
 ghost use Rattle.files.specs.Read.{point_at, curve_of_profile, battery_of, codes_at, caps_of, charger_of, row_of_charger, chargers_of, connector_rows, profile_index, vehicle_of, vehicles_of, queue_places_of, limit_of, read_plan};
 
 use crate::counted::CountedPlan;
-use arrayvec::ArrayVec;
 use charger::charger::Charger;
 use charger::connector::{connector_row, connectors_of};
 use charger::vehicle::Vehicle;
@@ -17,6 +16,7 @@ use curve::points::Point;
 use curve::sort;
 use curve::units::{Amperes, Kw, Kwh, Seconds, Volts};
 use engine::site::Site;
+use fixed_vec::FixedVec;
 use plan::bytes::{u8_at, u16_at, u32_at, u64_at};
 use plan::fields::{f64_at, point_count};
 use plan::ids::with_id;
@@ -117,7 +117,7 @@ fn read_charger(b: &[u8; 512]) -> Charger
 }
 
 // The chargers of the plan.
-pub fn read_chargers(chargers: &mut ArrayVec<Charger, 32>, plan: &CountedPlan)
+pub fn read_chargers(chargers: &mut FixedVec<Charger, 32>, plan: &CountedPlan)
     ensures { chargers.new.items ≡ chargers_of plan.now.file }
 {
     chargers.clear();

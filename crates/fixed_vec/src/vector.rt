@@ -131,6 +131,14 @@ impl<T: Copy, const CAP: usize> FixedVec<T, CAP> {
         Some(self.cells.xs[last])
     }
 
+    // Removes every element.
+    #[inline]
+    pub fn clear(&mut self)
+        ensures { self.new.items ≡ [] }
+    {
+        self.len = 0;
+    }
+
     // Removes the element at `index`, and moves the later ones down.
     pub fn remove(&mut self, index: usize) -> T
         requires { index < length self.old.items }
