@@ -1,4 +1,4 @@
-use Rattle.std.proofs.Common.{ℕ, ◌≤◌, ◌≡◌, length, sym, refl, arith, rules, length-take-le}
+use Rattle.std.proofs.Common.{◌≤◌, ◌≡◌, length, sym, refl, arith, length-take-le}
 use Rattle.fixed_vec.proofs.vector.FixedVec.as_mut_slice.Goals as goal
 
 pub returns : goal.returns
