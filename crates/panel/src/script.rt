@@ -71,6 +71,8 @@ impl<'a> Panel<'a> {
         ensures answer { Gives (λ byte. byte) (answer self.old.loaded.plan.now (the_plan self.old) operation (model self.old)) result }
         ensures left { Keeps self.old (done self.old.loaded.plan.now (the_plan self.old) operation (model self.old)) self.new }
     {
+        // The check has to meet the field's type here, or it cannot lend the panel to `read` and `line`.
+        let _ = &self.loaded;
         match operation {
             Operation::Rounds(count) => {
                 self.rounds(count);
