@@ -1,7 +1,8 @@
 // Replays recorded calls of dump, continue and late booking. Standard input holds them, each as changes to the buffers of plan, dump and car that the
 // one before left; standard output has for each the call's eleven numbers and a digest of each buffer that a call can write to. The record: a 32-bit
 // number of calls; for each a byte, 0 for dump, 1 for continue and 2 for late booking, five 32-bit numbers (engine, or the length of the car that is lent;
-// allowance or further events; the lengths of book, or new dump, of dump and of plan that are lent), and the changes of plan, of dump and of car.
+// allowance or further events; the lengths of book, or new dump, of dump and of plan that are lent), and the changes of plan, of dump and of car. Of the
+// number of calls and of these three lengths the low half counts.
 #![tactic(auto)]
 
 use dump::call;
@@ -10,7 +11,7 @@ use late_booking::late::book_late;
 use plan::answer::{check_numbers, run_numbers};
 use plan::bytes::put;
 use reading::read_full;
-use recorded::{Record, answer_bytes, digest, replay};
+use recorded::{Record, answer_bytes, digest, replay_few};
 use std::io;
 
 // Which call is made. A `match` tells the three, which are lent different buffers.
@@ -49,9 +50,9 @@ fn next_call(record: &mut Record) -> Call {
         kind: Kind::from(record.byte()),
         engine: record.u32(),
         units: record.u32(),
-        book: record.u32() as usize,
-        dump: record.u32() as usize,
-        plan: record.u32() as usize,
+        book: record.low_half(),
+        dump: record.low_half(),
+        plan: record.low_half(),
     }
 }
 
@@ -124,5 +125,5 @@ fn main(rt: HostRuntime) -> io::Result<()> {
         car: [0; 1024],
         new: [0; 16640],
     };
-    replay(&record[..n], |next| buffers.replay_call(&rt, next))
+    replay_few(&record[..n], |next| buffers.replay_call(&rt, next))
 }

@@ -54,6 +54,16 @@ impl<'a> Record<'a> {
         low + 65536 * self.u16() as u32
     }
 
+    // The low half of the 32-bit number that comes next.
+    pub fn low_half(&mut self) -> usize
+        ensures number { (result ≡ le_at 2 self.old.rest.now 0) × (result < 65536) }
+        ensures left { self.new.rest.now ≡ drop 4 self.old.rest.now }
+    {
+        let low = self.u16();
+        let _high = self.u16();
+        low
+    }
+
     // The little-endian number in the next eight.
     #[tactic(auto, using(crate::proofs::Laws::eight_bytes))]
     pub fn u64(&mut self) -> u64
@@ -98,18 +108,41 @@ impl<'a> Record<'a> {
     }
 }
 
+// Makes the calls that come next in a record, so many, by what reads and makes one.
+fn make_calls<F: FnMut(&mut Record) -> io::Result<()>>(
+    mut next: Record,
+    calls: u32,
+    mut call: F,
+) -> io::Result<()>
+    requires { F.IsAlwaysCallable call }
+    ensures { Calls (λ f x a g y. CalledAtMut F.FnMut f x a g y) calls call next.entry result }
+{
+    for _ in 0..calls {
+        call(&mut next)?;
+    }
+    Ok(())
+}
+
 // Replays a record: a 32-bit number of calls, and then each call, by what reads and makes the one that comes next.
-pub fn replay<F: FnMut(&mut Record) -> io::Result<()>>(bytes: &[u8], mut call: F) -> io::Result<()>
+pub fn replay<F: FnMut(&mut Record) -> io::Result<()>>(bytes: &[u8], call: F) -> io::Result<()>
     requires { F.IsAlwaysCallable call }
     ensures { (first : Record) × (first.rest.now ≡ drop 4 bytes.now)
         × Calls (λ f x a g y. CalledAtMut F.FnMut f x a g y) (le_at 4 bytes.now 0) call first result }
 {
     let mut record = Record { rest: bytes };
     let calls = record.u32();
-    for _ in 0..calls {
-        call(&mut record)?;
-    }
-    Ok(())
+    make_calls(record, calls, call)
+}
+
+// The same of a record of at most 65,535 calls: of their number the low half counts.
+pub fn replay_few<F: FnMut(&mut Record) -> io::Result<()>>(bytes: &[u8], call: F) -> io::Result<()>
+    requires { F.IsAlwaysCallable call }
+    ensures { (first : Record) × (first.rest.now ≡ drop 4 bytes.now)
+        × Calls (λ f x a g y. CalledAtMut F.FnMut f x a g y) (le_at 2 bytes.now 0) call first result }
+{
+    let mut record = Record { rest: bytes };
+    let calls = record.low_half();
+    make_calls(record, calls as u32, call)
 }
 
 // Puts bytes into the buffer at `place`, as far as it goes.
