@@ -1,9 +1,9 @@
 // The vehicles that wait for a charger that fits them (waiting_queue.rs).
-ghost use Rattle.std.specs.Prelude.{◌≡◌, [], ◌∷◌, ◌++◌, ◌≤◌, ◌<◌, ◌==◌, length, position, count_by};
+ghost use Rattle.std.specs.Prelude.{◌≡◌, [], ◌∷◌, ◌++◌, ◌≤◌, ◌<◌, ◌==◌, length, position};
 ghost use Rattle.charger.specs.First.{first};
 ghost use Rattle.charger.specs.Code.Vehicles.{listed};
 ghost use Rattle.charger.specs.Vehicle.{fits_at};
-ghost use Rattle.charger.specs.Fleet.{of_fleet, fleet_full};
+ghost use Rattle.charger.specs.Fleet.{queued_of, fleet_full};
 ghost use Rattle.charger.specs.Code.Queue.{waiting, Taken};
 
 use crate::vehicle::fits;
@@ -51,7 +51,7 @@ impl WaitingQueue {
     // How many of the fleet are queued.
     fn queued_of(&self, vehicles: &VehicleList, fleet: u16) -> usize
         requires { 1 ≤ fleet }
-        ensures { result ≡ count_by (of_fleet (listed vehicles.now) fleet) (waiting self.now) }
+        ensures { result ≡ queued_of (listed vehicles.now) fleet (waiting self.now) }
     {
         self.ids
             .iter()

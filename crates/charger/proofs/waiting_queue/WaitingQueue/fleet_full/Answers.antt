@@ -1,8 +1,7 @@
 -- `waiting_queue::WaitingQueue::fleet_full` meets its contract. Assumes nothing.
 use borrow.Author.Tests.{le-leb}
 use native.Mathlib.Omega.{arith}
-use Rattle.charger.specs.Fleet.{queued_of, fleet_full}
-use Rattle.charger.proofs.Lists.{count_by_is}
+use Rattle.charger.specs.Fleet.{fleet_full}
 use Rattle.charger.proofs.waiting_queue.WaitingQueue.fleet_full.Goals as goal
 
 pub returns-then-fleet-eq0 : goal.returns-then-fleet-eq0
@@ -10,5 +9,5 @@ unfolding fleet_full
 returns-then-fleet-eq0 c = rw c.if-fleet-eq0.true
 
 pub returns : goal.returns
-unfolding fleet_full queued_of
-returns c = rw (c.places_of-places.ensures, c.queued_of.ensures, count_by_is, le-leb 1 c.args.fleet (omega arith))
+unfolding fleet_full
+returns c = rw (c.places_of-places.ensures, c.queued_of.ensures, le-leb 1 c.args.fleet (omega arith))
