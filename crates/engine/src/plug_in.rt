@@ -114,6 +114,15 @@ impl State {
         self.bank[c] = s;
     }
 
+    // Nobody stands at the charger any more.
+    fn vacate(&mut self, c: usize)
+        requires { c < length self.old.bank.items }
+        ensures bank { self.new.bank.items ≡ slice_set self.old.bank.items c empty }
+        ensures rest { self.new.simulation ≡ self.old.simulation }
+    {
+        self.bank[c].clear();
+    }
+
     // The vehicle takes the charger.
     fn start_charging(&mut self, site: &Site, v: usize, c: usize, time: u64)
         requires fit { Running site.now 1 self.old }
@@ -188,7 +197,7 @@ impl State {
             .pop_compatible(&site.vehicles, site.row(c))
         {
             Some(v) => self.start_charging(site, v, c, time),
-            None => self.stand(c, ChargerState::default()),
+            None => self.vacate(c),
         }
     }
 

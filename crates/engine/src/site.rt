@@ -5,7 +5,7 @@ ghost use Rattle.charger.specs.Lists.{All};
 ghost use Rattle.charger.specs.Code.Queue.{waiting};
 ghost use Rattle.charger.specs.Code.Vehicles.{listed};
 ghost use Rattle.engine.specs.Plan.{charger_at, row_at, rated, output};
-ghost use Rattle.engine.specs.SiteState.{balks, turned, withdrawn};
+ghost use Rattle.engine.specs.SiteState.{balks, turned, withdrawn, with_written};
 ghost use Rattle.engine.specs.Code.Simulation.{booked, battery_at, connectors_of, plan_of, Takes, FirstBelow, InTime, Starts, Changed};
 
 use crate::events::{EventQueue, generate_arrival_events};
@@ -162,7 +162,8 @@ impl Simulation {
 
     // A vehicle that found no charger balks or waits.
     pub fn turn_away(&mut self, v: usize, vehicles: &VehicleList)
-        requires { length (booked self.old.sessions) + length (waiting self.old.queue) < 64 }
+        requires queue { length (waiting self.old.queue) < 64 }
+        requires room { length (with_written (turned v (waiting self.old.queue) (balks (listed vehicles.now) vehicles.now.queue_places v (waiting self.old.queue))).written (booked self.old.sessions)) ≤ 64 }
         ensures { Changed (turned v (waiting self.old.queue) (balks (listed vehicles.now) vehicles.now.queue_places v (waiting self.old.queue))) self.old self.new }
     {
         if self.balks(v, vehicles) {
@@ -174,7 +175,7 @@ impl Simulation {
 
     // A renege finds its vehicle queued, and it leaves, or finds nobody.
     pub fn renege(&mut self, time: u64, v: usize, vehicles: &VehicleList)
-        requires { length (booked self.old.sessions) + length (waiting self.old.queue) ≤ 64 }
+        requires { length (with_written (withdrawn (listed vehicles.now) time (waiting self.old.queue) (first (nat_eq v) (waiting self.old.queue))).written (booked self.old.sessions)) ≤ 64 }
         ensures { Changed (withdrawn (listed vehicles.now) time (waiting self.old.queue) (first (nat_eq v) (waiting self.old.queue))) self.old self.new }
     {
         if let Some(w) = self.queue.remove(v) {

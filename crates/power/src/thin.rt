@@ -19,6 +19,16 @@ pub fn progress(state: &mut ChargerState)
     *state = state.progress();
 }
 
+// Both, for a state that comes and goes by value.
+pub fn advanced(state: ChargerState, cap: Kw) -> ChargerState
+    ensures { result ≡ Spec.progress (Spec.with_cap cap state) }
+{
+    let mut s = state;
+    set_power_cap(&mut s, cap);
+    progress(&mut s);
+    s
+}
+
 // One charger's turn in the second pass: its cap and its progress. Says whether it is finished.
 pub fn move_on(s: &mut ChargerState, cap: Kw) -> bool
     ensures moved { s.new ≡ moved cap s.old }

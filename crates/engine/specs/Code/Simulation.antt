@@ -71,6 +71,7 @@ pub record Starts (vehicles : List Vehicle) (r : Simulation) : Type 0 where
   pub queue : waiting r.queue ≡ []
   pub sessions : booked r.sessions ≡ []
   pub handled : r.events.handled ≡ 0
+  pub bound : length r.events.pending ≤ 128
 
 -- a vehicle that takes no charger: the change of the queue was made, and who is no longer queued has a session
 pub record Changed (change : Change) (s r : Simulation) : Type 0 where

@@ -1,5 +1,4 @@
 -- `engine::plug_in::State::release` meets its contract. By whether somebody was queued who fits.
-use Rattle.std.proofs.Common.{set, ap, ◌∙◌}
 use Rattle.engine.proofs.plug_in.Releases.{who_popped, fit_requeued, releases_passing, releases_freeing}
 use Rattle.engine.proofs.plug_in.State.release.Goals as goal
 
@@ -17,4 +16,4 @@ returns-in-Some c =
 
 pub returns-in-None : goal.returns-in-None
 returns-in-None c =
-    releases_freeing c.args.site.now c.args.time c.args.c c.row.result c.args.self.now c.pop_compatible.new.self c.row.ensures c.in-None.ensures c.requires.fit c.stand.ensures.rest (c.stand.ensures.bank ∙ ap (set c.args.self.now.bank.items c.args.c) c.default.ensures)
+    releases_freeing c.args.site.now c.args.time c.args.c c.row.result c.args.self.now c.pop_compatible.new.self c.row.ensures c.in-None.ensures c.requires.fit c.vacate.ensures.rest c.vacate.ensures.bank
