@@ -3,7 +3,8 @@ ghost use Rattle.std.specs.Prelude.{◌≡◌, map, ◌+◌, ◌≤◌, length};
 ghost use Rattle.charger.specs.Lists.{All};
 ghost use Rattle.charger.specs.Vehicle.{connector_of};
 ghost use Rattle.charger.specs.Code.Vehicles.{listed};
-ghost use Rattle.engine.specs.Code.Simulation.{connectors_of};
+ghost use Rattle.engine.specs.Plan.{row_at};
+ghost use Rattle.files.specs.Code.Writing.{rows_of};
 ghost use Rattle.files.specs.BookSession.{plugged as BookSession·plugged, charged as BookSession·charged, kept as BookSession·kept, code_of, vehicle_number, charger_id, entry as BookSession·entry, Fits};
 
 use crate::counted::CountedPlan;
@@ -94,9 +95,19 @@ fn connector_code(there: bool, row: [bool; 5], vehicle: Vehicle) -> u8
     connector_of(row, vehicle).unwrap_or(0)
 }
 
+// The connectors of a charger of the plan; none past its last. The plan counts them: the site may have more or fewer chargers.
+fn row(plan: &CountedPlan, site: &Site, c: usize) -> [bool; 5]
+    ensures { result ≡ row_at (rows_of plan.now.file site.now) c }
+{
+    if c < plan.file.charger_count() {
+        return site.rows[c];
+    }
+    [false; 5]
+}
+
 // What the book says of a session.
 fn entry(plan: &CountedPlan, site: &Site, x: &Session) -> BookSession
-    ensures { result ≡ BookSession·entry plan.now.file (listed site.now.vehicles) (connectors_of site.now) x.now }
+    ensures { result ≡ BookSession·entry plan.now.file (listed site.now.vehicles) (rows_of plan.now.file site.now) x.now }
 {
     let outcome = x.outcome as u8;
     let there = plugged(outcome);
@@ -106,7 +117,7 @@ fn entry(plan: &CountedPlan, site: &Site, x: &Session) -> BookSession
         vehicle_id: vehicle_number(plan, x.vehicle, 0),
         profile_id: vehicle_number(plan, x.vehicle, 4),
         charger_id: charger_id(plan, there, x.charger),
-        connector: connector_code(there, site.row(x.charger), vehicle),
+        connector: connector_code(there, row(plan, site, x.charger), vehicle),
         outcome,
         fleet: vehicle.fleet,
         arrival: vehicle.arrival,
@@ -125,7 +136,7 @@ fn entry(plan: &CountedPlan, site: &Site, x: &Session) -> BookSession
 // What the book says of all sessions. A slice carries no bound, so a clause asks that they are few.
 pub fn entries(plan: &CountedPlan, site: &Site, sessions: &[Session]) -> ArrayVec<BookSession, 64>
     requires few { length sessions.now ≤ 64 }
-    ensures entries { result.items ≡ map (BookSession·entry plan.now.file (listed site.now.vehicles) (connectors_of site.now)) sessions.now }
+    ensures entries { result.items ≡ map (BookSession·entry plan.now.file (listed site.now.vehicles) (rows_of plan.now.file site.now)) sessions.now }
     ensures fit { All Fits result.items }
 {
     let mut all = ArrayVec::new();

@@ -23,7 +23,7 @@ use Rattle.plan.specs.Places.{charger_block, charger_count}
 use Rattle.plan.proofs.SearchLaws.{length-each}
 use Rattle.files.specs.Demand.{OfRun}
 use Rattle.files.proofs.Accepted.{counted}
-use Rattle.files.proofs.call.RunLaws.{runnable, writable}
+use Rattle.files.proofs.call.RunLaws.{rows_read, runnable, writable}
 use Rattle.files.proofs.call.BookDemand.{few_sessions}
 use Rattle.files.specs.Code.Writing.{Writable}
 use Rattle.files.proofs.call.Demanded.{Runs, answered}
@@ -65,7 +65,7 @@ module _ {plan : List ℕ} {site : Site} (l : Loaded plan site) (state : State) 
       record {
         counted = counted plan l.admitted;
         vehicles = ap (λ (q : Plan). q.vehicles) l.read;
-        connectors = ap (λ (q : Plan). q.connectors) l.read;
+        connectors = rows_read l;
         sessions = few_booked;
         events = all_map (λ e h. (omega (arith, h.0, few_vehicles), omega (arith, h.1, few_chargers))) within.pending;
         queue = all_map (λ v h. omega (arith, h, few_vehicles)) within.queue;

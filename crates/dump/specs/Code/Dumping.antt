@@ -8,8 +8,9 @@ use Rattle.engine.specs.declared.events.Event.{Event}
 use Rattle.engine.specs.declared.discrete.State.{State}
 use Rattle.engine.specs.declared.site.Site.{Site}
 use Rattle.engine.specs.Discrete.{Occupant, no_car, car}
-use Rattle.engine.specs.Code.Simulation.{pending, booked, connectors_of}
+use Rattle.engine.specs.Code.Simulation.{pending, booked}
 use Rattle.files.specs.Code.Reading.{Counted}
+use Rattle.files.specs.Code.Writing.{rows_of}
 use Rattle.files.specs.Read.{vehicles_of, connector_rows}
 
 -- a place for which its block's 16-bit number can be told
@@ -32,7 +33,7 @@ NearCar (car v) = Near v
 pub record Dumpable (plan : List ℕ) (site : Site) (state : State) : Type 0 where
   pub counted : Counted plan
   pub vehicles : listed site.vehicles ≡ vehicles_of plan
-  pub connectors : connectors_of site ≡ connector_rows plan
+  pub connectors : rows_of plan site ≡ connector_rows plan
   pub sessions : length (booked state.simulation.sessions) ≤ 64
   pub events : All NearEvent (pending state.simulation.events)
   pub queue : All Near (waiting state.simulation.queue)

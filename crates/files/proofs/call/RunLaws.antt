@@ -1,5 +1,5 @@
 -- What the plan's checks give to the engines, and the answer of a run by the tests in their order. Assumes nothing.
-use mathlib.Core.Path.{◌≡◌, refl, sym, subst, ap}
+use mathlib.Core.Path.{◌≡◌, ◌∙◌, refl, sym, subst, ap}
 use mathlib.Core.Bool.{Bool, true, false, cond}
 use mathlib.Core.List.{List, []}
 use Prim.Native.Nat.{ℕ, ◌≤◌, ◌<◌}
@@ -20,10 +20,10 @@ use Rattle.engine.specs.Code.Simulation.{InTime, plan_of}
 use Rattle.engine.specs.Plan.{Plan}
 use Rattle.power.specs.Code.Rising.{Rising}
 use Rattle.files.specs.Code.Reading.{Loaded, Admitted, Counted}
-use Rattle.files.specs.Read.{read_plan, points_of, curve_of_profile, vehicle_in, vehicles_of}
-use Rattle.plan.specs.Places.{profile_block, profile_count, vehicle_count}
+use Rattle.files.specs.Read.{read_plan, points_of, charger_of, chargers_of, connector_rows, curve_of_profile, vehicle_in, vehicles_of}
+use Rattle.plan.specs.Places.{charger_block, charger_count, profile_block, profile_count, vehicle_count}
 use Rattle.plan.proofs.SearchLaws.{length-each}
-use Rattle.files.specs.Code.Writing.{Writable}
+use Rattle.files.specs.Code.Writing.{Writable, rows_of}
 use Rattle.files.specs.Call.{stop_of, totals, if_fine, answer_of}
 use Rattle.files.specs.Code.Running.{Runnable, Stopped, engine_number}
 use Rattle.files.specs.declared.engines.Engine.{Engine}
@@ -61,8 +61,15 @@ module _ {plan : List ℕ} {site : Site} (l : Loaded plan site) where
   unfolding curve_of_profile
   rising = λ k. rw (ap (λ (p : Plan). p.curve k) l.read) (rising_at k (ltb k (profile_count plan)) refl)
 
+  -- the rows are the plan's, as many as it counts chargers
+  pub rows_read : rows_of plan site ≡ connector_rows plan
+  unfolding chargers_of
+  rows_read =
+      let many : length site.chargers.items ≡ charger_count plan = ap (λ (p : Plan). length p.chargers) l.read ∙ length-each (λ (i : ℕ). charger_of (charger_block plan i)) 0 (charger_count plan) in
+      rw many at (ap (λ (p : Plan). p.connectors) l.read)
+
   pub writable : (xs : List Session) (book : List ℕ) → length xs ≤ 64 → 7168 ≤ length book → Writable plan site xs book
-  writable xs book h k = record { counted = counted plan l.admitted; vehicles = ap (λ (p : Plan). p.vehicles) l.read; connectors = ap (λ (p : Plan). p.connectors) l.read; sessions = h; room = k }
+  writable xs book h k = record { counted = counted plan l.admitted; vehicles = ap (λ (p : Plan). p.vehicles) l.read; connectors = rows_read; sessions = h; room = k }
 
 -- what a run of the site left at its stop is what the plan's run leaves
 pub stopped_read : {plan : List ℕ} {site : Site} → Loaded plan site → (engine n m : ℕ) → n ≡ m → (old : List ℕ) (counts : Totals) (book : List ℕ)

@@ -3,9 +3,10 @@ use Rattle.std.proofs.Common.{◌≡◌, ◌∙◌, ◌+◌, ◌*◌, ◌/◌, �
 use lib.ListN.{length-map}
 use Rattle.std.proofs.lemmas.List.{length-reverse}
 use Rattle.charger.specs.Code.Vehicles.{listed}
-use Rattle.engine.specs.Code.Simulation.{model, connectors_of}
+use Rattle.engine.specs.Code.Simulation.{model}
 use Rattle.files.specs.Read.{vehicles_of, connector_rows}
 use Rattle.files.specs.BookSession.{book_sessions, entry}
+use Rattle.files.specs.Code.Writing.{rows_of}
 use Rattle.dump.specs.Dump.{dump_bytes}
 use Rattle.dump.proofs.dump.Laws.{length_dump, put_whole}
 use Rattle.dump.proofs.dump.Starts.{within}
@@ -23,7 +24,7 @@ put_event_blocks-requires c =
 pub put_session_blocks-requires : goal.put_session_blocks-requires
 put_session_blocks-requires c =
     let xs = c.as_slice-sessions.result.now in
-    let few : length xs ≤ 64 = omega (arith, ap length c.as_slice-sessions.ensures.value, ap length c.entries-all.ensures.entries, length-map c.as_slice.result.now (entry c.args.plan.now (listed c.args.site.now.vehicles) (connectors_of c.args.site.now)), ap length c.as_slice.ensures.value, c.requires.state.sessions) in
+    let few : length xs ≤ 64 = omega (arith, ap length c.as_slice-sessions.ensures.value, ap length c.entries-all.ensures.entries, length-map c.as_slice.result.now (entry c.args.plan.now (listed c.args.site.now.vehicles) (rows_of c.args.plan.now c.args.site.now)), ap length c.as_slice.ensures.value, c.requires.state.sessions) in
     record {
       few = few;
       place = omega (arith, c.as_slice-events.ensures.bound);
@@ -38,7 +39,7 @@ returns c =
     let events = c.as_slice-events.result.now in
     let said_of = c.as_slice-sessions.result.now in
     let vehicles : listed c.args.site.now.vehicles ≡ vehicles_of plan = c.requires.state.vehicles in
-    let rows : connectors_of c.args.site.now ≡ connector_rows plan = c.requires.state.connectors in
+    let rows : rows_of plan c.args.site.now ≡ connector_rows plan = c.requires.state.connectors in
     -- the entries are what the book says of the sessions
     let said : said_of ≡ book_sessions plan s.site.sessions = c.as_slice-sessions.ensures.value ∙ c.entries-all.ensures.entries ∙ rw (vehicles, rows, c.as_slice.ensures.value) in
     let popped = c.as_slice-events.ensures.items in

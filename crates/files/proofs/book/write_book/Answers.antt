@@ -6,7 +6,7 @@ use native.Mathlib.Omega.{arith}
 use lib.ListN.{length, length-map}
 use Rattle.charger.specs.Lists.{All}
 use Rattle.charger.specs.Code.Vehicles.{listed}
-use Rattle.engine.specs.Code.Simulation.{connectors_of}
+use Rattle.files.specs.Code.Writing.{rows_of}
 use Rattle.files.specs.Read.{vehicles_of, connector_rows}
 use Rattle.files.specs.BookSession.{book_sessions, entry, Fits}
 use Rattle.files.specs.Book.{book_bytes, written}
@@ -22,7 +22,7 @@ returns c =
     let plan = c.args.plan.now in
     let xs = book_sessions plan c.args.sessions.now in
     let vehicles : listed c.args.site.now.vehicles ≡ vehicles_of plan = c.requires.vehicles in
-    let rows : (connectors_of c.args.site.now) ≡ connector_rows plan = c.requires.connectors in
+    let rows : rows_of plan c.args.site.now ≡ connector_rows plan = c.requires.connectors in
     let said : c.entries-all.result.items ≡ xs = c.entries-all.ensures.entries ∙ rw (vehicles, rows) in
     let book =
     subst (λ (ys : List BookSession). c.put_book.new.book ≡ written (book_bytes c.args.engine c.args.ended c.args.used ys) c.args.book.now) said c.put_book.ensures in

@@ -4,8 +4,8 @@ use Rattle.charger.specs.Lists.{none, also}
 use Rattle.charger.specs.Code.Vehicles.{listed}
 use Rattle.charger.proofs.Lists.{all_append}
 use Rattle.charger.proofs.waiting_queue.Part.{take_more}
-use Rattle.engine.specs.Code.Simulation.{connectors_of}
 use Rattle.files.specs.BookSession.{entry, Fits}
+use Rattle.files.specs.Code.Writing.{rows_of}
 use Rattle.files.proofs.book_session.entries.Goals as goal
 
 -- one entry more
@@ -40,7 +40,7 @@ loop-x-preserved c =
     record {
       many = omega (arith, c.push.ensures.len, c.loop-x.invariant.many);
       so_far =
-          map_more (entry c.args.plan.now.file (listed c.args.site.now.vehicles) (connectors_of c.args.site.now)) c.args.sessions.now c.loop-x.all.items _ c.loop-x.x-index _ _
+          map_more (entry c.args.plan.now.file (listed c.args.site.now.vehicles) (rows_of c.args.plan.now.file c.args.site.now)) c.args.sessions.now c.loop-x.all.items _ c.loop-x.x-index _ _
           c.loop-x-test.true
           c.loop-x.invariant.so_far
           c.entry.ensures
