@@ -99,10 +99,8 @@ fn connector_code(there: bool, row: [bool; 5], vehicle: Vehicle) -> u8
 fn row(plan: &CountedPlan, site: &Site, c: usize) -> [bool; 5]
     ensures { result ≡ row_at (rows_of plan.now.file site.now) c }
 {
-    if c < plan.file.charger_count() {
-        return site.rows[c];
-    }
-    [false; 5]
+    let rows = &site.rows[..plan.file.charger_count()];
+    rows.get(c).copied().unwrap_or([false; 5])
 }
 
 // What the book says of a session.

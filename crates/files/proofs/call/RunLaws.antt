@@ -19,7 +19,7 @@ use Rattle.charger.specs.Code.Vehicles.{listed}
 use Rattle.engine.specs.Code.Simulation.{InTime, plan_of}
 use Rattle.engine.specs.Plan.{Plan}
 use Rattle.power.specs.Code.Rising.{Rising}
-use Rattle.files.specs.Code.Reading.{Loaded, Admitted, Counted}
+use Rattle.files.specs.Code.Reading.{Loaded}
 use Rattle.files.specs.Read.{read_plan, points_of, charger_of, chargers_of, connector_rows, curve_of_profile, vehicle_in, vehicles_of}
 use Rattle.plan.specs.Places.{charger_block, charger_count, profile_block, profile_count, vehicle_count}
 use Rattle.plan.proofs.SearchLaws.{length-each}
