@@ -2,7 +2,7 @@
  * practice day, play a script on the panel boards.
  *
  * `bash examples/link` proves the functions and makes target/staticlib/libcalls.a, for x86-64 Linux. It needs nothing
- * but memcpy and memset, so no further library is named:
+ * but memcpy, memmove and memset, so no further library is named:
  *
  *     cc main.c -Iinclude target/staticlib/libcalls.a
  *
