@@ -16,10 +16,11 @@ ghost use Rattle.dump.specs.Continued.{Unbroken, FitsBuffer, Determines, BlocksP
 use crate::dump::put_dump;
 use engine::discrete;
 use engine::site::Site;
-use files::check::read_plan;
+use files::check::read_admitted;
 use files::loaded::LoadedPlan;
 use files::stop::stop_events;
 use plan::answer::{Refusal, Totals};
+use plan::plan::check_blocks;
 
 // Runs a plan that was read, and writes its book and its dump.
 fn dump_site(read: LoadedPlan<'_>, allowance: u32, book: &mut [u8], dump: &mut [u8]) -> Totals
@@ -82,8 +83,9 @@ pub fn dump(
     if dump.len() < 16384 {
         return Err(Refusal::DumpUnder);
     }
+    check_blocks(plan)?;
     let mut site = Site::empty();
-    read_plan(plan, &mut site)?;
+    read_admitted(plan, &mut site)?;
     let read = LoadedPlan { plan, site: &site };
     Ok(dump_site(read, allowance, book, dump))
 }

@@ -18,11 +18,12 @@ use crate::dump::put_dump;
 use engine::discrete;
 use engine::discrete::State;
 use engine::site::Site;
-use files::check::read_plan;
+use files::check::read_admitted;
 use files::loaded::LoadedPlan;
 use files::stop::stop_events;
 use plan::answer::{Refusal, Totals};
 use plan::bytes::u64_at;
+use plan::plan::check_blocks;
 
 // Whether the bytes lent begin with the dump of a state.
 pub fn is_dump(dump: &[u8], plan: &[u8], site: &Site, state: &State) -> bool
@@ -93,8 +94,9 @@ pub fn resume(plan: &[u8], dump: &[u8], further: u32, book: &mut [u8]) -> Result
     if book.len() < 7168 {
         return Err(Refusal::BookUnder);
     }
+    check_blocks(plan)?;
     let mut site = Site::empty();
-    read_plan(plan, &mut site)?;
+    read_admitted(plan, &mut site)?;
     let read = LoadedPlan { plan, site: &site };
     resume_site(read, dump, further, book)
 }

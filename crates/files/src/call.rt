@@ -9,7 +9,7 @@ ghost use Rattle.files.specs.HotDay.{HotDayOfPlan, HotDayOfRun, BookByRating};
 ghost use Rattle.files.specs.Fleets.{FleetsWithin, FleetsCarried, AsBefore};
 ghost use Rattle.files.specs.EvenShares.{SharedEvenly, LimitIgnored};
 
-use crate::check::{check_plan, read_plan};
+use crate::check::{check_plan, read_admitted};
 use crate::engines::Engine;
 use crate::loaded::LoadedPlan;
 use crate::stop::{stop_events, stop_steps};
@@ -17,6 +17,7 @@ use engine::rising_site::RisingSite;
 use engine::site::Site;
 use engine::{discrete, timestep};
 use plan::answer::{Refusal, Totals};
+use plan::plan::check_blocks;
 
 // Runs a plan that was read, and writes its book.
 fn run_site(read: LoadedPlan<'_>, engine: Engine, allowance: u32, book: &mut [u8]) -> Totals
@@ -79,8 +80,9 @@ pub fn run(plan: &[u8], engine: u32, allowance: u32, book: &mut [u8]) -> Result<
     if book.len() < 7168 {
         return Err(Refusal::BookUnder);
     }
+    check_blocks(plan)?;
     let mut site = Site::empty();
-    read_plan(plan, &mut site)?;
+    read_admitted(plan, &mut site)?;
     let read = LoadedPlan { plan, site: &site };
     Ok(run_site(read, engine, allowance, book))
 }

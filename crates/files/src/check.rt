@@ -30,12 +30,13 @@ pub fn pair_answer(plan: &CountedPlan, pair: Option<(usize, usize)>) -> Result<(
     }
 }
 
-// Reads a plan into a site, if it is fine.
-pub fn read_plan(plan: &[u8], site: &mut Site) -> Result<(), Refusal>
+// Reads a plan whose blocks are fine into a site, and tests its pairs. Its callers test the blocks before they make the site: to fill one takes
+// longer than to refuse most plans.
+pub fn read_admitted(plan: &[u8], site: &mut Site) -> Result<(), Refusal>
+    requires { Admitted plan.now }
     ensures answer { Reads plan.now site.new result }
-    ensures site { Admitted plan.now → plan_of site.new ≡ read_plan plan.now }
+    ensures site { plan_of site.new ≡ read_plan plan.now }
 {
-    check_blocks(plan)?;
     let plan = CountedPlan {
         file: PlanFile { bytes: plan },
     };
@@ -43,10 +44,22 @@ pub fn read_plan(plan: &[u8], site: &mut Site) -> Result<(), Refusal>
     pair_answer(&plan, failing_pair(site))
 }
 
+// Reads a plan into a site, if it is fine.
+#[tactic(auto, using(crate::proofs::check::PairLaws::blocks_refused))]
+pub fn read_plan(plan: &[u8], site: &mut Site) -> Result<(), Refusal>
+    ensures answer { Reads plan.now site.new result }
+    ensures site { Admitted plan.now → plan_of site.new ≡ read_plan plan.now }
+{
+    check_blocks(plan)?;
+    read_admitted(plan, site)
+}
+
 // What a check of a plan answers.
+#[tactic(auto, using(crate::proofs::check::PairLaws::blocks_refused))]
 pub fn check_plan(plan: &[u8]) -> Result<(), Refusal>
     ensures { result ≡ check_plan plan.now }
 {
+    check_blocks(plan)?;
     let mut site = Site::empty();
-    read_plan(plan, &mut site)
+    read_admitted(plan, &mut site)
 }

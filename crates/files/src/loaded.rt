@@ -4,7 +4,7 @@ ghost use Rattle.files.specs.Code.Reading.{Loaded};
 
 use engine::site::Site;
 
-// It is made where `read_plan` has answered Ok, and what runs a plan takes it.
+// It is made where `read_admitted` has answered Ok, and what runs a plan takes it.
 #[derive(Clone, Copy)]
 pub struct LoadedPlan<'a> {
     pub plan: &'a [u8],

@@ -8,9 +8,10 @@ ghost use Rattle.late_booking.specs.Call.{dumped_after};
 use dump::dump::put_dump;
 use engine::discrete;
 use engine::site::Site;
-use files::check::read_plan;
+use files::check::read_admitted;
 use files::loaded::LoadedPlan;
 use plan::answer::Refusal;
+use plan::plan::check_blocks;
 
 // Dumps a plan that was read, after n events.
 fn dump_site(read: LoadedPlan<'_>, n: u64, dump: &mut [u8])
@@ -23,13 +24,15 @@ fn dump_site(read: LoadedPlan<'_>, n: u64, dump: &mut [u8])
 }
 
 // Checks a plan, and dumps it after n events if it is fine. A refused plan changes nothing.
+#[tactic(auto, using(files::proofs::check::PairLaws::blocks_refused))]
 pub fn check_dump(plan: &[u8], n: u64, dump: &mut [u8]) -> Result<(), Refusal>
     requires { 16384 ≤ length dump.old }
     ensures answer { result ≡ check_plan plan.now }
     ensures dump { dump.new ≡ dumped_after plan.now n result dump.old }
 {
+    check_blocks(plan)?;
     let mut site = Site::empty();
-    read_plan(plan, &mut site)?;
+    read_admitted(plan, &mut site)?;
     dump_site(LoadedPlan { plan, site: &site }, n, dump);
     Ok(())
 }

@@ -20,11 +20,12 @@ use engine::discrete;
 use engine::discrete::State;
 use engine::events::EventQueue;
 use engine::site::Site;
-use files::check::read_plan;
+use files::check::read_admitted;
 use files::loaded::LoadedPlan;
 use plan::answer::{Refusal, Rule};
 use plan::bytes::u64_at;
 use plan::places::PlanFile;
+use plan::plan::check_blocks;
 
 // The time of the event that pops first; 0 where there is none, as the rules say it.
 fn first_time(events: &EventQueue) -> u64
@@ -123,8 +124,9 @@ pub fn book_late(plan: &[u8], dump: &[u8], car: &[u8], new: &mut [u8]) -> Result
     let Ok(block) = <&[u8; 512]>::try_from(car) else {
         return Err(Refusal::Broken(Rule::Length, 0));
     };
+    check_blocks(plan)?;
     let mut site = Site::empty();
-    read_plan(plan, &mut site)?;
+    read_admitted(plan, &mut site)?;
     let read = LoadedPlan { plan, site: &site };
     book_site(read, dump, block, new)
 }

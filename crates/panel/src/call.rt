@@ -7,9 +7,10 @@ ghost use Rattle.panel.specs.Promises.{Shows, ShowsStatus, Pending, Enables, Rai
 use crate::panel::Panel;
 use crate::script::within_allowance;
 use engine::site::Site;
-use files::check::read_plan;
+use files::check::read_admitted;
 use files::loaded::LoadedPlan;
 use plan::answer::Refusal;
+use plan::plan::check_blocks;
 
 // Plays a script on a panel beside a step run of a plan. A refused call changes nothing.
 pub fn panel(plan: &[u8], script: &[u64], out: &mut [u8]) -> Result<(), Refusal>
@@ -31,8 +32,9 @@ pub fn panel(plan: &[u8], script: &[u64], out: &mut [u8]) -> Result<(), Refusal>
     if !within_allowance(script) {
         return Err(Refusal::AllowanceAbove);
     }
+    check_blocks(plan)?;
     let mut site = Site::empty();
-    read_plan(plan, &mut site)?;
+    read_admitted(plan, &mut site)?;
     let mut panel = Panel::start(LoadedPlan { plan, site: &site });
     panel.play(script, out);
     Ok(())

@@ -96,6 +96,11 @@ plan_fine plan e =
     let both = fine_answer (check_blocks plan) (pair_answer plan (failing_pair (read_plan plan))) e in
     (both.0, fine_pairs plan (failing_pair (read_plan plan)) both.1)
 
+-- a plan whose blocks are refused is refused for them
+pub blocks_refused : (plan : List ℕ) (x : Refusal) → check_blocks plan ≡ Err x → check_plan plan ≡ Err x
+unfolding check_plan
+blocks_refused plan x e = rw e refl
+
 -- so its blocks are sealed blocks
 pub all_sealed : (plan : List ℕ) → ((k : ℕ) → get_or plan k 0 < 256) → (a : Result (Unit {0}) Refusal) → a ≡ check_plan plan → AllSealed plan a
 all_sealed plan bytes (Ok u) e = sealed-block plan (plan_fine plan (sym e)).0 bytes
