@@ -3,7 +3,7 @@ use Rattle.std.specs.Prelude.{◌≡◌, ℕ, ◌+◌, List, [], ◌∷◌, Bool
 use Rattle.fixed_vec.specs.FixedVec.{Room}
 use Rattle.engine.specs.declared.events.Event.{Event}
 
--- the room behind them is there for copies: no clause says anything of it
+-- the room behind them is there for copies: no clause names it
 pub record Queued : Type 0 where
   pub pending : List Event
   pub handled : ℕ
