@@ -9,7 +9,7 @@ use crate::event_blocks::put_event_blocks;
 use crate::header::put_state;
 use engine::discrete::State;
 use engine::site::Site;
-use files::book_session::entries;
+use files::book_session::entries_of_plan;
 use files::counted::CountedPlan;
 use files::session_blocks::put_session_blocks;
 use plan::places::PlanFile;
@@ -27,7 +27,7 @@ pub fn put_dump(s: &mut [u8], plan: &[u8], site: &Site, state: &State) -> usize
     let plan = CountedPlan {
         file: PlanFile { bytes: plan },
     };
-    let all = entries(&plan, site, state.simulation.sessions.as_slice());
+    let all = entries_of_plan(&plan, site, state.simulation.sessions.as_slice());
     let sessions = all.as_slice();
     let blocks = (events.len() + 30) / 31;
     put_state(s, &plan.file, state);

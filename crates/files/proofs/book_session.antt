@@ -1,2 +1,3 @@
 -- Laws that the functions of the module and of others cite.
 pub mod Connectors
+pub mod Told

@@ -5,7 +5,7 @@ ghost use Rattle.files.specs.Code.Writing.{Writable};
 ghost use Rattle.files.specs.BookSession.{book_sessions};
 ghost use Rattle.files.specs.Book.{header_block, book_bytes, written, ReadBack};
 
-use crate::book_session::{BookSession, entries};
+use crate::book_session::{BookSession, entries_of_plan};
 use crate::counted::CountedPlan;
 use crate::session_blocks::put_session_blocks;
 use arrayvec::ArrayVec;
@@ -64,6 +64,6 @@ pub fn write_book(
     let plan = CountedPlan {
         file: PlanFile { bytes: plan },
     };
-    let all = entries(&plan, site, sessions);
+    let all = entries_of_plan(&plan, site, sessions);
     put_book(book, &all, engine, ended, used);
 }

@@ -4,6 +4,7 @@ ghost use Rattle.charger.specs.Lists.{All};
 ghost use Rattle.charger.specs.Vehicle.{connector_of};
 ghost use Rattle.charger.specs.Code.Vehicles.{listed};
 ghost use Rattle.engine.specs.Plan.{row_at};
+ghost use Rattle.engine.specs.Code.Simulation.{connectors_of};
 ghost use Rattle.files.specs.Code.Writing.{rows_of};
 ghost use Rattle.files.specs.BookSession.{plugged as BookSession·plugged, charged as BookSession·charged, kept as BookSession·kept, code_of, vehicle_number, charger_id, entry as BookSession·entry, Fits};
 
@@ -131,8 +132,12 @@ fn entry(plan: &CountedPlan, site: &Site, x: &Session) -> BookSession
     }
 }
 
-// What the book says of all sessions. A slice carries no bound, so a clause asks that they are few.
-pub fn entries(plan: &CountedPlan, site: &Site, sessions: &[Session]) -> ArrayVec<BookSession, 64>
+// What the book says of all sessions: the plan counts the chargers. A slice carries no bound, so a clause asks that they are few.
+pub fn entries_of_plan(
+    plan: &CountedPlan,
+    site: &Site,
+    sessions: &[Session],
+) -> ArrayVec<BookSession, 64>
     requires few { length sessions.now ≤ 64 }
     ensures entries { result.items ≡ map (BookSession·entry plan.now.file (listed site.now.vehicles) (rows_of plan.now.file site.now)) sessions.now }
     ensures fit { All Fits result.items }
@@ -140,6 +145,31 @@ pub fn entries(plan: &CountedPlan, site: &Site, sessions: &[Session]) -> ArrayVe
     let mut all = ArrayVec::new();
     for x in sessions {
         all.push(entry(plan, site, x));
+    }
+    all
+}
+
+// What it would say of a session if the site counted the chargers.
+fn entry_of_site(plan: &CountedPlan, site: &Site, x: &Session) -> BookSession
+    ensures { result ≡ BookSession·entry plan.now.file (listed site.now.vehicles) (connectors_of site.now) x.now }
+{
+    let there = plugged(x.outcome as u8);
+    let vehicle = site.vehicles.get_vehicle(x.vehicle);
+    BookSession {
+        connector: connector_code(there, site.row(x.charger), vehicle),
+        ..entry(plan, site, x)
+    }
+}
+
+// The same of all sessions. No call of the product needs it: a site that was read has as many chargers as its plan.
+pub fn entries(plan: &CountedPlan, site: &Site, sessions: &[Session]) -> ArrayVec<BookSession, 64>
+    requires few { length sessions.now ≤ 64 }
+    ensures entries { result.items ≡ map (BookSession·entry plan.now.file (listed site.now.vehicles) (connectors_of site.now)) sessions.now }
+    ensures fit { All Fits result.items }
+{
+    let mut all = ArrayVec::new();
+    for x in sessions {
+        all.push(entry_of_site(plan, site, x));
     }
     all
 }

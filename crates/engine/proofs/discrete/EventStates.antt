@@ -21,7 +21,7 @@ use Rattle.engine.specs.Demand.{is_arrival, arrives, anyone}
 use Rattle.engine.specs.Discrete as Discrete
 use Rattle.engine.specs.Discrete.{Occupant, no_car, car, is_vacant, events, charged_session, start, step}
 use Rattle.engine.specs.Code.Events.{Queued, Pops}
-use Rattle.engine.specs.Code.Simulation.{pending, booked, held, model, Takes, FirstBelow, Starts, Changed, Becomes, Admits, Ready}
+use Rattle.engine.specs.Code.Simulation.{pending, booked, held, model, Takes, FirstBelow, AtStart, Changed, Becomes, Admits, Ready}
 use Rattle.engine.proofs.site.Handlers.{starts, arrival_charges, arrival-turned, release_passes, release_frees}
 use Rattle.engine.proofs.site.Places.{free_at_get}
 use Rattle.engine.proofs.site.Simulations.{same_site, changed_site}
@@ -30,7 +30,7 @@ pub same_model : {s t : Discrete.State} → s.site ≡ t.site → s.handled ≡ 
 same_model f h = λ i. record { site = f i; handled = h i }
 
 -- a run's start
-pub begins : (p : Plan) {r : Simulation} (l : FixedVec Occupant) → Starts p.vehicles r → l.items ≡ replicate (length p.chargers) no_car → model (record { simulation = r; places = l }) ≡ start p
+pub begins : (p : Plan) {r : Simulation} (l : FixedVec Occupant) → AtStart p.vehicles r → l.items ≡ replicate (length p.chargers) no_car → model (record { simulation = r; places = l }) ≡ start p
 begins p {r} l s e = same_model (rw e (starts p (events p) s)) s.handled
 
 -- a change is also made if it is another's at this state

@@ -108,7 +108,8 @@ module _ (site : Site) {change : Change} {s r : State} (b : Changed change s.sim
         places = rw same f.places;
       }
 
-fewer_turned : (v : ℕ) (queue : List ℕ) (xs : List Session) (b : Bool) → length (turned v queue b).queue + length (with_written (turned v queue b).written xs) ≤ length queue + length xs + 1
+-- who is turned away is queued or has a session: one more at most
+pub fewer_turned : (v : ℕ) (queue : List ℕ) (xs : List Session) (b : Bool) → length (turned v queue b).queue + length (with_written (turned v queue b).written xs) ≤ length queue + length xs + 1
 fewer_turned v queue xs true = rw length-append (omega arith)
 fewer_turned v queue xs false = rw length-append (omega arith)
 
@@ -140,7 +141,8 @@ module _ (site : Site) (time v : ℕ) (free : ℕ → Bool → Type 0) (x : Vehi
 
 -- ---- a renege
 
-fewer_withdrawn : (vehicles : List Vehicle) (time : ℕ) (test : ℕ → Bool) (queue : List ℕ) (xs : List Session)
+-- who leaves the queue has a session, and nobody else
+pub fewer_withdrawn : (vehicles : List Vehicle) (time : ℕ) (test : ℕ → Bool) (queue : List ℕ) (xs : List Session)
     → let c = withdrawn vehicles time queue (first test queue) in length c.queue + length (with_written c.written xs) ≤ length queue + length xs + 0
 fewer_withdrawn vehicles time test queue xs = go (searched test queue)
   where

@@ -7,13 +7,13 @@ use Rattle.engine.specs.declared.events.EventType.TheVariants.{Arrival}
 use Rattle.engine.specs.declared.site.Simulation.{Simulation}
 use Rattle.engine.specs.Plan.{Plan, vehicle, fits}
 use Rattle.engine.specs.SiteState.{Engine, SiteState, balks, with_queue, turned_away, initial, freed, start_charging, free_at, available, release, handle}
-use Rattle.engine.specs.Code.Simulation.{site_state, Takes, FirstBelow, Starts}
+use Rattle.engine.specs.Code.Simulation.{site_state, Takes, FirstBelow, AtStart}
 use Rattle.engine.proofs.site.Places.{below_missed, below_met}
 use Rattle.engine.proofs.site.Simulations.{same_site}
 
 module _ (p : Plan) {A : Type 0} (g : Engine A) where
   -- the state before the first event
-  pub starts : {r : Simulation} → Starts p.vehicles r → site_state r (replicate (length p.chargers) g.empty) ≡ initial p g
+  pub starts : {r : Simulation} → AtStart p.vehicles r → site_state r (replicate (length p.chargers) g.empty) ≡ initial p g
   starts s = same_site s.pending s.queue refl s.sessions
 
   -- ---- an arrival, where `free` answers which chargers are free

@@ -11,7 +11,7 @@ use Rattle.engine.specs.declared.site.Site.{Site}
 use Rattle.engine.specs.declared.site.Simulation.{Simulation}
 use Rattle.engine.specs.SiteState.{SiteState}
 use Rattle.engine.specs.Timestep.{steps, start}
-use Rattle.engine.specs.Code.Simulation.{plan_of, Starts}
+use Rattle.engine.specs.Code.Simulation.{plan_of, AtStart}
 use Rattle.engine.specs.Code.Steps.{SiteWithin, Running, step_state}
 use Rattle.engine.proofs.site.Moves as M
 use Rattle.engine.proofs.site.Laws as L
@@ -20,7 +20,7 @@ use Rattle.engine.proofs.timestep.RunMoves.{lawful}
 use Rattle.engine.proofs.timestep.LoopTurn.{at}
 use Rattle.engine.proofs.events.Generated.{all_generate}
 
-module _ (site : Site) {r : Simulation} (bank : FixedVec ChargerState) (s : Starts (listed site.vehicles) r) (cleared : bank.items ≡ replicate (length site.chargers.items) empty) where
+module _ (site : Site) {r : Simulation} (bank : FixedVec ChargerState) (s : AtStart (listed site.vehicles) r) (cleared : bank.items ≡ replicate (length site.chargers.items) empty) where
   abbrev begun : State
   begun = record { simulation = r; bank = bank }
 

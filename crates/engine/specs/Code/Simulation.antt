@@ -65,6 +65,13 @@ FirstBelow test n found =
 abbrev pub InTime : Vehicle → Type 0
 InTime x = (x.arrival ≤ 1000000) × (x.wait ≤ 1000000)
 
+-- all that the rules see of the start of a run
+pub record AtStart (vehicles : List Vehicle) (r : Simulation) : Type 0 where
+  pub pending : pending r.events ≡ generate 0 vehicles []
+  pub queue : waiting r.queue ≡ []
+  pub sessions : booked r.sessions ≡ []
+  pub handled : r.events.handled ≡ 0
+
 -- the start of a run
 pub record Starts (vehicles : List Vehicle) (r : Simulation) : Type 0 where
   pub pending : pending r.events ≡ generate 0 vehicles []
@@ -72,6 +79,9 @@ pub record Starts (vehicles : List Vehicle) (r : Simulation) : Type 0 where
   pub sessions : booked r.sessions ≡ []
   pub handled : r.events.handled ≡ 0
   pub bound : length r.events.pending ≤ 128
+
+abbrev pub at_start : {vehicles : List Vehicle} {r : Simulation} → Starts vehicles r → AtStart vehicles r
+at_start s = record { pending = s.pending; queue = s.queue; sessions = s.sessions; handled = s.handled }
 
 -- a vehicle that takes no charger: the change of the queue was made, and who is no longer queued has a session
 pub record Changed (change : Change) (s r : Simulation) : Type 0 where

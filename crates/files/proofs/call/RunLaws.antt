@@ -2,12 +2,13 @@
 use mathlib.Core.Path.{◌≡◌, ◌∙◌, refl, sym, subst, ap}
 use mathlib.Core.Bool.{Bool, true, false, cond}
 use mathlib.Core.List.{List, []}
-use Prim.Native.Nat.{ℕ, ◌≤◌, ◌<◌}
+use Prim.Native.Nat.{ℕ, min, ◌≤◌, ◌<◌}
 use native.Mathlib.Omega.{arith}
 use borrow.Author.Tests.{lt-ltb, le-ltb, ltb-true}
 use lib.Dec.{ltb}
 use lib.Ieee.{le}
-use lib.ListN.{length}
+use lib.ListN.{length, take}
+use Rattle.std.proofs.lemmas.List.{length-take, take_min}
 use Rattle.curve.specs.Curve.{curve_of}
 use Rattle.curve.specs.Code.Rising.{Rises}
 use Rattle.curve.proofs.sort.Sorted.{rises, held_socs}
@@ -16,11 +17,11 @@ use Rattle.charger.proofs.Lists.{all_map}
 use Rattle.engine.specs.declared.session.Session.{Session}
 use Rattle.engine.specs.declared.site.Site.{Site}
 use Rattle.charger.specs.Code.Vehicles.{listed}
-use Rattle.engine.specs.Code.Simulation.{InTime, plan_of}
+use Rattle.engine.specs.Code.Simulation.{InTime, connectors_of, plan_of}
 use Rattle.engine.specs.Plan.{Plan}
 use Rattle.power.specs.Code.Rising.{Rising}
 use Rattle.files.specs.Code.Reading.{Loaded}
-use Rattle.files.specs.Read.{read_plan, points_of, charger_of, chargers_of, connector_rows, curve_of_profile, vehicle_in, vehicles_of}
+use Rattle.files.specs.Read.{read_plan, points_of, row_of_charger, connector_rows, curve_of_profile, vehicle_in, vehicles_of}
 use Rattle.plan.specs.Places.{charger_block, charger_count, profile_block, profile_count, vehicle_count}
 use Rattle.plan.proofs.SearchLaws.{length-each}
 use Rattle.files.specs.Code.Writing.{Writable, rows_of}
@@ -37,6 +38,14 @@ use Rattle.plan.specs.declared.answer.Refusal.{Refusal}
 use Rattle.plan.specs.declared.answer.Totals.{Totals}
 
 -- ---- what the plan's checks give
+
+-- rows that are the plan's where the site counts them are so where the plan does
+pub rows_counted : (plan : List ℕ) (site : Site) → connectors_of site ≡ connector_rows plan → rows_of plan site ≡ connector_rows plan
+unfolding connector_rows
+rows_counted plan site e =
+    let n = length site.chargers.items in
+    let many : min n (length site.rows) ≡ charger_count plan = sym (length-take n site.rows) ∙ ap length e ∙ length-each (λ (i : ℕ). row_of_charger (charger_block plan i)) 0 (charger_count plan) in
+    ap (λ (m : ℕ). take m site.rows) (sym many) ∙ take_min n site.rows ∙ e
 
 module _ {plan : List ℕ} {site : Site} (l : Loaded plan site) where
   vehicles_read : vehicles_of plan ≡ listed site.vehicles
@@ -63,10 +72,7 @@ module _ {plan : List ℕ} {site : Site} (l : Loaded plan site) where
 
   -- the rows are the plan's, as many as it counts chargers
   pub rows_read : rows_of plan site ≡ connector_rows plan
-  unfolding chargers_of
-  rows_read =
-      let many : length site.chargers.items ≡ charger_count plan = ap (λ (p : Plan). length p.chargers) l.read ∙ length-each (λ (i : ℕ). charger_of (charger_block plan i)) 0 (charger_count plan) in
-      rw many at (ap (λ (p : Plan). p.connectors) l.read)
+  rows_read = rows_counted plan site (ap (λ (p : Plan). p.connectors) l.read)
 
   pub writable : (xs : List Session) (book : List ℕ) → length xs ≤ 64 → 7168 ≤ length book → Writable plan site xs book
   writable xs book h k = record { counted = counted plan l.admitted; vehicles = ap (λ (p : Plan). p.vehicles) l.read; connectors = rows_read; sessions = h; room = k }

@@ -24,7 +24,7 @@ put_event_blocks-requires c =
 pub put_session_blocks-requires : goal.put_session_blocks-requires
 put_session_blocks-requires c =
     let xs = c.as_slice-sessions.result.now in
-    let few : length xs ≤ 64 = omega (arith, ap length c.as_slice-sessions.ensures.value, ap length c.entries-all.ensures.entries, length-map c.as_slice.result.now (entry c.args.plan.now (listed c.args.site.now.vehicles) (rows_of c.args.plan.now c.args.site.now)), ap length c.as_slice.ensures.value, c.requires.state.sessions) in
+    let few : length xs ≤ 64 = omega (arith, ap length c.as_slice-sessions.ensures.value, ap length c.entries_of_plan-all.ensures.entries, length-map c.as_slice.result.now (entry c.args.plan.now (listed c.args.site.now.vehicles) (rows_of c.args.plan.now c.args.site.now)), ap length c.as_slice.ensures.value, c.requires.state.sessions) in
     record {
       few = few;
       place = omega (arith, c.as_slice-events.ensures.bound);
@@ -41,7 +41,7 @@ returns c =
     let vehicles : listed c.args.site.now.vehicles ≡ vehicles_of plan = c.requires.state.vehicles in
     let rows : rows_of plan c.args.site.now ≡ connector_rows plan = c.requires.state.connectors in
     -- the entries are what the book says of the sessions
-    let said : said_of ≡ book_sessions plan s.site.sessions = c.as_slice-sessions.ensures.value ∙ c.entries-all.ensures.entries ∙ rw (vehicles, rows, c.as_slice.ensures.value) in
+    let said : said_of ≡ book_sessions plan s.site.sessions = c.as_slice-sessions.ensures.value ∙ c.entries_of_plan-all.ensures.entries ∙ rw (vehicles, rows, c.as_slice.ensures.value) in
     let popped = c.as_slice-events.ensures.items in
     let many : length s.site.pending ≡ length events = rw (popped, length-reverse) in
     let long : length (dump_bytes plan s) ≡ 512 + 512 * ((length events + 30) / 31) + 512 * ((length said_of + 4) / 5) = rw (many, ← said) at (length_dump plan s) in

@@ -23,11 +23,11 @@ returns c =
     let xs = book_sessions plan c.args.sessions.now in
     let vehicles : listed c.args.site.now.vehicles ≡ vehicles_of plan = c.requires.vehicles in
     let rows : rows_of plan c.args.site.now ≡ connector_rows plan = c.requires.connectors in
-    let said : c.entries-all.result.items ≡ xs = c.entries-all.ensures.entries ∙ rw (vehicles, rows) in
+    let said : c.entries_of_plan-all.result.items ≡ xs = c.entries_of_plan-all.ensures.entries ∙ rw (vehicles, rows) in
     let book =
     subst (λ (ys : List BookSession). c.put_book.new.book ≡ written (book_bytes c.args.engine c.args.ended c.args.used ys) c.args.book.now) said c.put_book.ensures in
     let few : length xs ≤ 64 = rw (length-map c.args.sessions.now (entry plan (vehicles_of plan) (connector_rows plan))) c.requires.sessions in
-    let fit : All Fits xs = rw (← said) c.entries-all.ensures.fit in
+    let fit : All Fits xs = rw (← said) c.entries_of_plan-all.ensures.fit in
     record {
       book = book;
       back = rw book (book_back c.args.engine c.args.ended c.args.used xs c.args.book.now few (omega (arith, c.ranges)) (omega (arith, c.ranges)) (omega (arith, c.ranges)) fit);
